@@ -1,0 +1,5 @@
+pub mod Lists
+pub mod Lookup
+pub mod Fronts
+pub mod Table
+pub mod Letters

@@ -1,0 +1,159 @@
+// The names of the geometries, their endings, and the words that they make.
+ghost use mathlib.Core.Path.{_≡_};
+ghost use Rattle.names.specs.Names.{meaning, ending, isEmptyWord, front, afterName};
+
+pub const POINT: [u8; 5] = *b"POINT";
+
+pub const LINESTRING: [u8; 10] = *b"LINESTRING";
+
+pub const POLYGON: [u8; 7] = *b"POLYGON";
+
+pub const MULTIPOINT: [u8; 10] = *b"MULTIPOINT";
+
+pub const MULTILINESTRING: [u8; 15] = *b"MULTILINESTRING";
+
+pub const MULTIPOLYGON: [u8; 12] = *b"MULTIPOLYGON";
+
+pub const GEOMETRYCOLLECTION: [u8; 18] = *b"GEOMETRYCOLLECTION";
+
+// The one extra word: it takes no ending, and means LINESTRING.
+pub const LINEARRING: [u8; 10] = *b"LINEARRING";
+
+// The endings: the first is none at all.
+pub const NONE: [u8; 0] = *b"";
+
+pub const Z: [u8; 1] = *b"Z";
+
+pub const M: [u8; 1] = *b"M";
+
+pub const ZM: [u8; 2] = *b"ZM";
+
+pub const EMPTY: [u8; 5] = *b"EMPTY";
+
+pub const KIND_POINT: u32 = 1;
+
+pub const KIND_LINESTRING: u32 = 2;
+
+pub const KIND_POLYGON: u32 = 3;
+
+pub const KIND_MULTIPOINT: u32 = 4;
+
+pub const KIND_MULTILINESTRING: u32 = 5;
+
+pub const KIND_MULTIPOLYGON: u32 = 6;
+
+pub const KIND_GEOMETRYCOLLECTION: u32 = 7;
+
+pub const DIM_XY: u32 = 0;
+
+pub const DIM_XYZ: u32 = 1;
+
+pub const DIM_XYM: u32 = 2;
+
+pub const DIM_XYZM: u32 = 3;
+
+// What a word means.
+pub enum Name {
+    Unknown,
+    // A kind's name alone: a header may follow.
+    Bare(u32),
+    // A kind's name with a dimension's ending joined: no header follows.
+    Joined(u32, u32),
+}
+
+// The dimension of an ending.
+pub enum Ending {
+    Is(u32),
+    No,
+}
+
+// The name that a word begins with: its kind and its length.
+pub enum Front {
+    Begun(u32, usize),
+    Other,
+}
+
+// Which of the four endings `w` is.
+pub fn ending_of(w: &[u8]) -> Ending
+    ensures { λ r. ⌜ r ≡ ending (now (w .entry)) ⌝ }
+{
+    if words::same_word(w, &NONE) {
+        return Ending::Is(DIM_XY);
+    }
+    if words::same_word(w, &Z) {
+        return Ending::Is(DIM_XYZ);
+    }
+    if words::same_word(w, &M) {
+        return Ending::Is(DIM_XYM);
+    }
+    if words::same_word(w, &ZM) {
+        return Ending::Is(DIM_XYZM);
+    }
+    Ending::No
+}
+
+pub fn is_empty_word(w: &[u8]) -> bool
+    ensures { λ r. ⌜ r ≡ isEmptyWord (now (w .entry)) ⌝ }
+{
+    words::same_word(w, &EMPTY)
+}
+
+// The name that `w` begins with. No name begins with another.
+pub fn front_of(w: &[u8]) -> Front
+    ensures { λ r. ⌜ r ≡ front (now (w .entry)) ⌝ }
+{
+    if words::starts_with_word(w, &POINT) {
+        return Front::Begun(KIND_POINT, POINT.len());
+    }
+    if words::starts_with_word(w, &LINESTRING) {
+        return Front::Begun(KIND_LINESTRING, LINESTRING.len());
+    }
+    if words::starts_with_word(w, &POLYGON) {
+        return Front::Begun(KIND_POLYGON, POLYGON.len());
+    }
+    if words::starts_with_word(w, &MULTIPOINT) {
+        return Front::Begun(KIND_MULTIPOINT, MULTIPOINT.len());
+    }
+    if words::starts_with_word(w, &MULTILINESTRING) {
+        return Front::Begun(KIND_MULTILINESTRING, MULTILINESTRING.len());
+    }
+    if words::starts_with_word(w, &MULTIPOLYGON) {
+        return Front::Begun(KIND_MULTIPOLYGON, MULTIPOLYGON.len());
+    }
+    if words::starts_with_word(w, &GEOMETRYCOLLECTION) {
+        return Front::Begun(KIND_GEOMETRYCOLLECTION, GEOMETRYCOLLECTION.len());
+    }
+    Front::Other
+}
+
+// What the name of a kind means with `rest` after it.
+fn after_name(kind: u32, rest: &[u8]) -> Name
+    ensures { λ r. ⌜ r ≡ afterName kind (ending (now (rest .entry))) ⌝ }
+{
+    match ending_of(rest) {
+        Ending::Is(dim) => {
+            if dim == DIM_XY {
+                Name::Bare(kind)
+            } else {
+                Name::Joined(kind, dim)
+            }
+        }
+        Ending::No => Name::Unknown,
+    }
+}
+
+// What `word` means: the name that it begins with and the ending that is left, or the extra word.
+pub fn name_of(word: &[u8]) -> Name
+    ensures { λ r. ⌜ r ≡ meaning (now (word .entry)) ⌝ }
+{
+    match front_of(word) {
+        Front::Begun(kind, len) => after_name(kind, &word[len..]),
+        Front::Other => {
+            if words::same_word(word, &LINEARRING) {
+                Name::Bare(KIND_LINESTRING)
+            } else {
+                Name::Unknown
+            }
+        }
+    }
+}

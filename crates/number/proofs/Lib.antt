@@ -1,0 +1,4 @@
+pub mod Stop
+pub mod Equal
+pub mod Inner
+pub mod Text

@@ -1,0 +1,3 @@
+pub mod Lexeme
+pub mod Grammar
+pub mod Examples

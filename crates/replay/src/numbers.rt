@@ -1,0 +1,33 @@
+// Small functions on numbers.
+ghost use Prim.Native.Nat.{_≤_};
+
+pub(crate) const U32_BYTES: usize = 4;
+
+const BYTE: usize = 256;
+
+// The lesser of two numbers. It keeps a place inside its buffer where no proof says that it lies there.
+pub(crate) fn least(a: usize, b: usize) -> usize
+    ensures { λ r. ⌜ r ≤ a ⌝ }
+    ensures { λ r. ⌜ r ≤ b ⌝ }
+{
+    if a < b { a } else { b }
+}
+
+fn wide(b: u8) -> usize
+    ensures { λ r. ⌜ r ≤ 255 ⌝ }
+{
+    b as usize
+}
+
+// The u32 that stands at a place, its lowest byte first; 0 where it isn't there whole.
+pub(crate) fn u32_at(bytes: &[u8], at: usize) -> usize {
+    if bytes.len() < U32_BYTES {
+        return 0;
+    }
+    if bytes.len() - U32_BYTES < at {
+        return 0;
+    }
+    let low = wide(bytes[at]) + wide(bytes[at + 1]) * BYTE;
+    let high = wide(bytes[at + 2]) + wide(bytes[at + 3]) * BYTE;
+    low + high * BYTE * BYTE
+}

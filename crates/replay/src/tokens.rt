@@ -1,0 +1,122 @@
+// The letters `t` and `p`: a cursor is put at a place of a text, and so many tokens are taken. Fields: place, count.
+use crate::MAX_TEXT;
+use crate::found::put_found;
+use crate::found::same_found;
+use crate::numbers::u32_at;
+use crate::output::put;
+use crate::output::put_bad_record;
+use tokenizer::Cursor;
+use tokenizer::Found;
+
+// Where the fields and the text stand in a record.
+const PLACE: usize = 1;
+
+const COUNT: usize = 5;
+
+const TEXT: usize = 9;
+
+pub(crate) enum Demand {
+    // Letter `t`.
+    Take,
+    // Letter `p`: each token is looked at twice before it is taken.
+    LookAndTake,
+}
+
+// What was taken, whether each look before saw the same, and the cursor to go on with.
+struct Demanded {
+    found: Found,
+    agreed: bool,
+    next: Cursor,
+}
+
+fn take(cursor: Cursor, text: &[u8]) -> Demanded {
+    let taken = cursor.take(text);
+    let found = taken.found;
+    let next = taken.next;
+    Demanded {
+        found,
+        agreed: true,
+        next,
+    }
+}
+
+fn look_and_take(cursor: Cursor, text: &[u8]) -> Demanded {
+    let look = cursor.look(text);
+    let first = look.found;
+    let cursor = look.next;
+    let look = cursor.look(text);
+    let second = look.found;
+    let cursor = look.next;
+    let taken = cursor.take(text);
+    let found = taken.found;
+    let next = taken.next;
+    let agreed = same_found(first, found) & same_found(second, found);
+    Demanded {
+        found,
+        agreed,
+        next,
+    }
+}
+
+fn demand_one(cursor: Cursor, text: &[u8], demand: Demand) -> Demanded {
+    match demand {
+        Demand::Take => take(cursor, text),
+        Demand::LookAndTake => look_and_take(cursor, text),
+    }
+}
+
+// What was taken, with ` !` behind it if a look saw something else. No right line has that: by the tokenizer's
+// contracts a look sees what is taken next.
+fn put_demanded(out: &mut [u8], at: usize, demanded: Demanded) -> usize {
+    let found = demanded.found;
+    let end = put_found(out, at, found);
+    if demanded.agreed {
+        end
+    } else {
+        put(out, end, b" !")
+    }
+}
+
+// So many tokens from a cursor on, with a space between.
+fn put_tokens(
+    text: &[u8],
+    from: Cursor,
+    count: usize,
+    demand: Demand,
+    out: &mut [u8],
+    at: usize,
+) -> usize {
+    let mut cursor = from;
+    let mut left = count;
+    let mut end = at;
+    while left > 0 {
+        let demanded = demand_one(cursor, text, demand);
+        end = put_demanded(out, end, demanded);
+        cursor = demanded.next;
+        left -= 1;
+        if left > 0 {
+            end = put(out, end, b" ");
+        }
+    }
+    end
+}
+
+// The line of a record of one of these letters.
+pub(crate) fn answer(record: &[u8], demand: Demand, out: &mut [u8], at: usize) -> usize {
+    if record.len() < TEXT {
+        return put_bad_record(out, at);
+    }
+    if MAX_TEXT < record.len() - TEXT {
+        return put_bad_record(out, at);
+    }
+    let cursor = Cursor::new(u32_at(record, PLACE));
+    let end = put_tokens(
+        &record[TEXT..],
+        cursor,
+        u32_at(record, COUNT),
+        demand,
+        out,
+        at,
+    );
+    put(out, end, b"\n")
+}

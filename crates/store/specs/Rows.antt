@@ -1,0 +1,131 @@
+-- Rows in lent slices (document 01, "The store").
+use Prim.Native.Nat.{ℕ, zero, suc, _+_, _-_, _*_, _/_}
+use mathlib.Core.Bool.{cond}
+use mathlib.Core.List.{List, [], _∷_, _++_, flatMap}
+use lib.Dec.{ltb}
+use lib.ListN.{length, getD, take, drop, replicate}
+use lib.Seq.{sets}
+
+-- "Nodes are rows of three u32", "Numbers are rows of two u32": the widths stand here alone
+abbrev pub nodeWidth : ℕ
+nodeWidth = 3
+
+abbrev pub numberWidth : ℕ
+numberWidth = 2
+
+-- "kind [..], dimension [..], parts"
+abbrev pub kindColumn : ℕ
+kindColumn = 0
+
+abbrev pub dimensionColumn : ℕ
+dimensionColumn = 1
+
+abbrev pub partsColumn : ℕ
+partsColumn = 2
+
+-- "start and length"
+abbrev pub startColumn : ℕ
+startColumn = 0
+
+abbrev pub lengthColumn : ℕ
+lengthColumn = 1
+
+-- "Room is the slice length divided by 3 or 2, rounded down."
+abbrev pub nodeRoom : List ℕ → ℕ
+nodeRoom ns = length ns / nodeWidth
+
+abbrev pub numberRoom : List ℕ → ℕ
+numberRoom ms = length ms / numberWidth
+
+-- the number in column c of row i, of rows of width w: 0 where there is no such row
+unfoldable pub cell : ℕ → List ℕ → ℕ → ℕ → ℕ
+cell w s i c = cond (ltb i (length s / w)) (getD s (i * w + c) 0) 0
+
+-- the numbers vs in row i from column c on: nothing changes where there is no such row
+unfoldable pub put : ℕ → List ℕ → ℕ → ℕ → List ℕ → List ℕ
+put w s i c vs = cond (ltb i (length s / w)) (sets s (i * w + c) vs) s
+
+-- the first n of what f gives
+unfoldable pub firsts : {A : Type 0} → (ℕ → A) → ℕ → List A
+firsts f zero = []
+firsts f (suc n) = firsts f n ++ (f n ∷ [])
+
+-- kind, dimension and parts of a node
+pub data Row : Type 0 where
+  row : ℕ → ℕ → ℕ → Row
+
+-- start, length and bytes of a number's text
+pub data Span : Type 0 where
+  span : ℕ → ℕ → List ℕ → Span
+
+abbrev pub kindAt : List ℕ → ℕ → ℕ
+kindAt ns i = cell nodeWidth ns i kindColumn
+
+abbrev pub dimensionAt : List ℕ → ℕ → ℕ
+dimensionAt ns i = cell nodeWidth ns i dimensionColumn
+
+abbrev pub partsAt : List ℕ → ℕ → ℕ
+partsAt ns i = cell nodeWidth ns i partsColumn
+
+abbrev pub rowAt : List ℕ → ℕ → Row
+rowAt ns i = row (kindAt ns i) (dimensionAt ns i) (partsAt ns i)
+
+abbrev pub startAt : List ℕ → ℕ → ℕ
+startAt ms i = cell numberWidth ms i startColumn
+
+abbrev pub lengthAt : List ℕ → ℕ → ℕ
+lengthAt ms i = cell numberWidth ms i lengthColumn
+
+-- the span from `start` on, of `len` bytes
+abbrev pub spanOf : List ℕ → ℕ → ℕ → Span
+spanOf text start len = span start len (take len (drop start text))
+
+abbrev pub spanAt : List ℕ → List ℕ → ℕ → Span
+spanAt text ms i = spanOf text (startAt ms i) (lengthAt ms i)
+
+-- the first n node rows
+unfoldable pub rowsIn : List ℕ → ℕ → List Row
+rowsIn ns n = firsts (rowAt ns) n
+
+-- the first m number rows, with their texts
+unfoldable pub spansIn : List ℕ → List ℕ → ℕ → List Span
+spansIn text ms m = firsts (spanAt text ms) m
+
+unfoldable pub putRow : List ℕ → ℕ → ℕ → ℕ → ℕ → List ℕ
+putRow ns i k d p = put nodeWidth ns i kindColumn (k ∷ d ∷ p ∷ [])
+
+unfoldable pub putParts : List ℕ → ℕ → ℕ → List ℕ
+putParts ns i p = put nodeWidth ns i partsColumn (p ∷ [])
+
+unfoldable pub putSpan : List ℕ → ℕ → ℕ → ℕ → List ℕ
+putSpan ms i start len = put numberWidth ms i startColumn (start ∷ len ∷ [])
+
+-- the row at i with other parts: nothing changes past the end
+unfoldable pub setParts : List Row → ℕ → ℕ → List Row
+setParts [] i v = []
+setParts (row k d p ∷ rs) zero v = row k d v ∷ rs
+setParts (r ∷ rs) (suc i) v = r ∷ setParts rs i v
+
+-- rows as numbers
+abbrev pub rowNumbers : Row → List ℕ
+rowNumbers (row k d p) = k ∷ d ∷ p ∷ []
+
+abbrev pub spanNumbers : Span → List ℕ
+spanNumbers (span start len text) = start ∷ len ∷ []
+
+unfoldable pub flatRows : List Row → List ℕ
+flatRows rs = flatMap rowNumbers rs
+
+unfoldable pub flatSpans : List Span → List ℕ
+flatSpans ss = flatMap spanNumbers ss
+
+abbrev pub zeros : ℕ → List ℕ
+zeros n = replicate n 0
+
+-- "Unused places are zero after every call.": the list, and zeros up to the length n
+abbrev pub padded : List ℕ → ℕ → List ℕ
+padded l n = l ++ zeros (n - length l)
+
+-- the slice with zeros from the place `from` on
+unfoldable pub cleared : List ℕ → ℕ → List ℕ
+cleared s from = take from s ++ zeros (length s - from)

@@ -1,0 +1,5 @@
+pub mod Tokens
+pub mod Stream
+pub mod Sound
+pub mod Lex
+pub mod Examples

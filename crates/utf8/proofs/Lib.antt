@@ -1,0 +1,5 @@
+pub mod Table
+pub mod Leads
+pub mod Followed
+pub mod Walk
+pub mod Whole

@@ -1,0 +1,106 @@
+//! Cases: a text with what is asked of it.
+
+use crate::any_bytes;
+use crate::random::Random;
+use driver::record::{Record, Request, MAX_SLICE};
+
+/// The letters that both sides can answer.
+#[derive(Clone, Copy, Debug, PartialEq, Eq)]
+pub enum Letter {
+    Take,
+    LookAndTake,
+    Read,
+    Infer,
+}
+
+impl Letter {
+    pub fn from_char(letter: char) -> Option<Self> {
+        match letter {
+            't' => Some(Letter::Take),
+            'p' => Some(Letter::LookAndTake),
+            'r' => Some(Letter::Read),
+            'i' => Some(Letter::Infer),
+            _ => None,
+        }
+    }
+
+    /// What is asked of the text under this letter, its fields drawn.
+    pub fn request(self, random: &mut Random, text: &[u8]) -> Request {
+        match self {
+            Letter::Take => {
+                let (place, count) = place_and_count(random, text);
+                Request::Take { place, count }
+            }
+            Letter::LookAndTake => {
+                let (place, count) = place_and_count(random, text);
+                Request::LookAndTake { place, count }
+            }
+            Letter::Read => {
+                let (nodes, numbers) = rooms(random, text.len());
+                Request::Read { nodes, numbers }
+            }
+            Letter::Infer => Request::Infer,
+        }
+    }
+}
+
+#[derive(Clone, Debug)]
+pub struct Case {
+    pub request: Request,
+    pub text: Vec<u8>,
+}
+
+impl Case {
+    pub fn record(&self) -> Record<'_> {
+        Record {
+            request: self.request,
+            text: &self.text,
+        }
+    }
+}
+
+pub fn encode(cases: &[Case]) -> Vec<u8> {
+    let mut stream = Vec::new();
+    for case in cases {
+        case.record().encode(&mut stream);
+    }
+    stream
+}
+
+/// A place (the start, inside, the end, past it) and, in most cases, so many demands
+/// that the true end answers twice.
+fn place_and_count(random: &mut Random, text: &[u8]) -> (u32, u32) {
+    let place = match random.below(16) {
+        0..=8 => 0,
+        9..=13 => random.below(text.len() + 1),
+        14 => text.len(),
+        _ => text.len() + 1 + random.below(3),
+    };
+    let enough = any_bytes::demands_past_end(text, place);
+    let count = match random.below(16) {
+        0 => random.below(enough + 1),
+        _ => enough,
+    };
+    // The largest place there is, too.
+    let place = match place > text.len() && random.once_in(4) {
+        true => u32::MAX,
+        false => place as u32,
+    };
+    (place, count as u32)
+}
+
+/// Slice lengths, with room for whatever the text may hold or, at times, too small.
+fn rooms(random: &mut Random, text_length: usize) -> (u32, u32) {
+    // A node takes two bytes at least (`1 ` of a bare point), and so does a number.
+    let rows = text_length / 2 + 2;
+    let (node_rows, number_rows) = match random.below(8) {
+        0 => (random.below(8), random.below(16)),
+        _ => (rows, rows),
+    };
+    let slice = |places: usize| (places as u32).min(MAX_SLICE);
+    let beyond_a_row = random.below(2);
+    (
+        slice(3 * node_rows + beyond_a_row),
+        slice(2 * number_rows + beyond_a_row),
+    )
+}

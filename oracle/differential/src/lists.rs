@@ -1,0 +1,199 @@
+//! Fixed lists of records with the Rust's answers, for the gate to replay: the
+//! Rust's own tests, the edges of document 01, then generated texts. The order of
+//! the sections is fixed and the seed decides the rest.
+
+use crate::cases::{self, Case, Letter};
+use crate::random::Random;
+use crate::texts::Texts;
+use driver::answer::{self, NOT_COMPARABLE, NOT_UTF8, STACK_BYTES};
+use driver::record::Request;
+use driver::tokens;
+use std::path::Path;
+use std::{fs, io, thread};
+
+/// The texts of the tests in tokenizer.rs, but for those of one character repeated.
+const TESTED_TEXTS: [&str; 9] = [
+    "",
+    "hello",
+    "hello world",
+    "4.2",
+    "+4.2",
+    "4.2p",
+    "¾",
+    ".4 -2",
+    "POINT (10 -20)",
+];
+
+/// `test_no_stack_overflow` of tokenizer.rs repeats each of these so many times.
+const REPEATED: usize = 100_000;
+/// One token, or none, in the whole text: found only by passing over all of it.
+const REPEATED_AS_ONE: [&str; 4] = ["+", " ", "A", "1"];
+/// A token each: the last ones are demanded, to keep the line short.
+const REPEATED_AS_MANY: [&str; 3] = ["(", ")", ","];
+const LAST_TOKENS: usize = 10;
+
+/// The edges of document 01 (and its decided open points), as texts of tokens.
+const EDGES: &[&str] = &[
+    "POINT",
+    "POINT 4x",
+    "POINT(x 2)",
+    "POINT(1 x)",
+    "POINT(+ 5)",
+    "POINT(1 \0)",
+    "POINT(1 ",
+    "POINT(++4 +-4)",
+    "MULTIPOINT((1 2),3 4)",
+    "MULTIPOINT(1 2,EMPTY)",
+    "POINTZ Z(1 2 3)",
+    "LINEARRINGZ(1 2 3)",
+    "GEOMETRYCOLLECTION(京)",
+    "GEOMETRYCOLLECTION(京(1 2))",
+    "GEOMETRYCOLLECTION Z(POINT(1 2))",
+    "GEOMETRYCOLLECTION(POINT foo)",
+    "GEOMETRYCOLLECTION(POINT 4x)",
+    "GEOMETRYCOLLECTION(POINT \0)",
+    "GEOMETRYCOLLECTION(POINTZ \0)",
+    "POINT(1 2)",
+    "POINT Z(1 2 +3)",
+    "POINT(++4 +inf)",
+    "POINTEMPTY",
+    "\0",
+    "\0\0",
+    " \0 \0 ",
+    "a\0b",
+    "1\x002",
+    "+\x00",
+    "a\0",
+    " \t\n\r",
+    " \t\n\ra \t\n\rb",
+    "\x0b",
+    "\x0c1",
+    "1\x0b",
+    "1\u{a0}2",
+    "\u{a0}",
+    "\u{2028}a",
+    "\u{feff}1",
+    "a+1",
+    "a.b-c",
+    "1(2)3,4",
+    "(),(),",
+    "a(b)c,d",
+    "1e 5",
+];
+
+/// Number texts, good and bad, a blank between.
+const NUMBER_TEXTS: &str = "\
+    0 -0 +0 00 007 1 -1 +1 ++1 +-1 -+1 --1 +++1 ++-1 1. .1 -.1 +.1 1.0 1.2.3 . - + ++ +- \
+    +. -. .. 1.. ..1 1e5 1E5 1e+5 1e-5 1e 1e+ 1e- 1e++5 1e5.0 1e5e5 e5 .e5 1.e5 .1e5 \
+    -.1e-5 +.e 1ee5 1e400 1e-400 -1e400 0e10000 1e00000000000000000005 inf +inf -inf \
+    ++inf +-inf -+inf +INF -Inf +iNf infinity +infinity -infinity +INFINITY -InFiNiTy \
+    nan +nan -nan ++nan +NaN -NAN +i +in +infi +infin +infini +infinit +infinityx -infx \
+    +n +na -nanx +inf1 -1inf 1nan +infe5 1_0 0x10 1f 1d 1/2 1:2 1e5x 1京 +京 -¾ 1\u{660} \
+    123456789012345678901234567890 0.00000000000000000000000000000000001 \
+    179769313486231570000e289 4.9e-324";
+
+/// Writes `stdin` and `stdout` into the directory, with so many generated answers.
+pub fn write(seed: u64, generated: usize, directory: &Path) -> io::Result<()> {
+    let mut cases = tested();
+    cases.extend(edges());
+    cases.extend(places());
+    cases.extend(generate(seed, generated));
+    let lines = answers(&cases)?;
+    fs::create_dir_all(directory)?;
+    fs::write(directory.join("stdin"), cases::encode(&cases))?;
+    fs::write(directory.join("stdout"), lines)?;
+    println!("{} records with the Rust's answers", cases.len());
+    Ok(())
+}
+
+/// The Rust's line for each case.
+fn answers(cases: &[Case]) -> io::Result<String> {
+    thread::scope(|scope| {
+        let answering = thread::Builder::new()
+            .stack_size(STACK_BYTES)
+            .spawn_scoped(scope, || {
+                let lines = cases.iter().map(|case| answer::line(&case.record()) + "\n");
+                lines.collect::<String>()
+            })?;
+        Ok(answering.join().expect("the Rust answers every record"))
+    })
+}
+
+fn tested() -> Vec<Case> {
+    let short = TESTED_TEXTS.iter().flat_map(|text| both(text, 0));
+    let as_one = REPEATED_AS_ONE.iter().map(|unit| {
+        let request = Request::Take { place: 0, count: 3 };
+        repeated(unit, request)
+    });
+    let as_many = REPEATED_AS_MANY.iter().map(|unit| {
+        let request = Request::Take {
+            place: (REPEATED - LAST_TOKENS) as u32,
+            count: (LAST_TOKENS + 2) as u32,
+        };
+        repeated(unit, request)
+    });
+    short.chain(as_one).chain(as_many).collect()
+}
+
+fn repeated(unit: &str, request: Request) -> Case {
+    let text = unit.repeat(REPEATED).into_bytes();
+    Case { request, text }
+}
+
+fn edges() -> Vec<Case> {
+    let texts = EDGES.iter().copied().chain(NUMBER_TEXTS.split(' '));
+    texts.flat_map(|text| both(text, 0)).collect()
+}
+
+/// Every place of a few texts, and places past the end.
+fn places() -> Vec<Case> {
+    let mut cases = Vec::new();
+    for text in ["", " +1 \0(京, ++inf)x", "POINT Z(1 2 +3)"] {
+        let characters = text.char_indices().map(|(place, _)| place);
+        let past_end = [text.len(), text.len() + 1, u32::MAX as usize];
+        for place in characters.chain(past_end) {
+            cases.extend(both(text, place));
+        }
+    }
+    cases
+}
+
+/// Letters `t` and `p` of a text, the true end met twice.
+fn both(text: &str, place: usize) -> [Case; 2] {
+    let count = tokens::demands_past_end(text, place).expect("the place is a character's") as u32;
+    let place = place as u32;
+    let requests = [
+        Request::Take { place, count },
+        Request::LookAndTake { place, count },
+    ];
+    requests.map(|request| Case {
+        request,
+        text: text.as_bytes().to_vec(),
+    })
+}
+
+/// Generated texts under both letters in turn, those that the Rust can answer.
+fn generate(seed: u64, count: usize) -> Vec<Case> {
+    const LONGEST: usize = 120;
+    let mut texts = Texts::new(seed);
+    let mut random = Random::new(!seed);
+    let mut cases = Vec::new();
+    while cases.len() < count {
+        let text = texts.next_short();
+        let letter = match cases.len() % 2 {
+            0 => Letter::Take,
+            _ => Letter::LookAndTake,
+        };
+        let request = letter.request(&mut random, &text);
+        let case = Case { request, text };
+        if case.text.len() <= LONGEST && has_answer(&case) {
+            cases.push(case);
+        }
+    }
+    cases
+}
+
+fn has_answer(case: &Case) -> bool {
+    let line = answer::line(&case.record());
+    line != NOT_UTF8 && line != NOT_COMPARABLE
+}

@@ -1,0 +1,149 @@
+//! Holds the replay program beside the Rust: makes texts from a seed, runs both
+//! on the same records and stops at the first difference, made as small as it gets.
+//! With `--list` it writes a fixed list of records and the Rust's answers instead.
+
+mod any_bytes;
+mod cases;
+mod check;
+mod damage;
+mod expected;
+mod grammar;
+mod lists;
+mod numbers;
+mod random;
+mod replay;
+mod report;
+mod shrink;
+mod texts;
+
+use cases::{Case, Letter};
+use check::{check, Fault, Tally};
+use random::Random;
+use replay::Replay;
+use std::io;
+use std::path::PathBuf;
+use std::process::ExitCode;
+use texts::Texts;
+
+/// The letters that the replay program knows so far.
+const KNOWN_LETTERS: &str = "tp";
+/// One run of the replay program answers the records of so many texts.
+const TEXTS_PER_RUN: usize = 20_000;
+
+const USAGE: &str = "usage: differential [--letters LETTERS] [--replay PROGRAM] SEED COUNT
+       differential --list SEED COUNT DIRECTORY";
+
+struct Options {
+    letters: Vec<Letter>,
+    replay: Option<PathBuf>,
+    is_list: bool,
+    rest: Vec<String>,
+}
+
+fn options(mut arguments: impl Iterator<Item = String>) -> Option<Options> {
+    let mut letters = KNOWN_LETTERS.to_string();
+    let mut replay = None;
+    let mut is_list = false;
+    let mut rest = Vec::new();
+    while let Some(argument) = arguments.next() {
+        match argument.as_str() {
+            "--letters" => letters = arguments.next()?,
+            "--replay" => replay = Some(PathBuf::from(arguments.next()?)),
+            "--list" => is_list = true,
+            _ => rest.push(argument),
+        }
+    }
+    let letters: Option<Vec<Letter>> = letters.chars().map(Letter::from_char).collect();
+    Some(Options {
+        letters: letters?,
+        replay,
+        is_list,
+        rest,
+    })
+}
+
+fn main() -> ExitCode {
+    let ended = options(std::env::args().skip(1)).and_then(run);
+    match ended {
+        Some(Ok(true)) => ExitCode::SUCCESS,
+        Some(Ok(false)) => ExitCode::FAILURE,
+        Some(Err(error)) => {
+            eprintln!("differential: {error}");
+            ExitCode::FAILURE
+        }
+        None => {
+            eprintln!("{USAGE}");
+            ExitCode::from(2)
+        }
+    }
+}
+
+/// Whether all went well; `None` for arguments that mean nothing.
+fn run(options: Options) -> Option<io::Result<bool>> {
+    let seed = options.rest.first()?.parse().ok()?;
+    let count = options.rest.get(1)?.parse().ok()?;
+    match (options.is_list, &options.rest[2..]) {
+        (true, [directory]) => Some(lists::write(seed, count, directory.as_ref()).map(|()| true)),
+        (false, []) => {
+            let program = options.replay?;
+            Some(compare(&Replay { program }, &options.letters, seed, count))
+        }
+        _ => None,
+    }
+}
+
+/// Compares on so many texts; false after the first difference, which is printed.
+fn compare(replay: &Replay, letters: &[Letter], seed: u64, count: usize) -> io::Result<bool> {
+    let mut texts = Texts::new(seed);
+    // Places and rooms are drawn apart, so that the texts are the same for any letters.
+    let mut random = Random::new(!seed);
+    let mut tally = Tally::new();
+    let mut left = count;
+    while left > 0 {
+        let now = left.min(TEXTS_PER_RUN);
+        let cases = next_cases(&mut texts, &mut random, letters, now);
+        if let Some(fault) = check(replay, &cases, &mut tally)? {
+            explain(replay, &cases, fault)?;
+            return Ok(false);
+        }
+        left -= now;
+    }
+    report::print_tally(seed, count, &tally);
+    Ok(true)
+}
+
+fn next_cases(
+    texts: &mut Texts,
+    random: &mut Random,
+    letters: &[Letter],
+    count: usize,
+) -> Vec<Case> {
+    let mut cases = Vec::with_capacity(count * letters.len());
+    for _ in 0..count {
+        let text = texts.next();
+        for letter in letters {
+            cases.push(Case {
+                request: letter.request(random, &text),
+                text: text.clone(),
+            });
+        }
+    }
+    cases
+}
+
+fn explain(replay: &Replay, cases: &[Case], fault: Fault) -> io::Result<()> {
+    let case = match fault {
+        Fault::Different(index) => shrink::single_case(replay, &cases[index..=index])?,
+        Fault::Broken(message) => {
+            println!("{message}");
+            shrink::single_case(replay, cases)?
+        }
+    };
+    match case {
+        Some(case) => report::print_difference(replay, &shrink::smallest(replay, case)?),
+        None => {
+            println!("no single record shows it by itself");
+            Ok(())
+        }
+    }
+}

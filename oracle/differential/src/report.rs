@@ -1,0 +1,64 @@
+//! What a run prints.
+
+use crate::cases::{self, Case};
+use crate::check::Tally;
+use crate::expected::expected;
+use crate::replay::Replay;
+use driver::answer::STACK_BYTES;
+use driver::record::Request;
+use std::{io, thread};
+
+/// A longer text is printed up to here.
+const PRINTED_BYTES: usize = 2_000;
+
+pub fn print_tally(seed: u64, texts: usize, tally: &Tally) {
+    println!("seed {seed}, {texts} texts, no difference");
+    for (letter, count) in tally {
+        let letter = char::from(*letter);
+        print!("{letter}: {} records agreed", count.agreed);
+        match count.undecided {
+            0 => println!(),
+            undecided => println!(", {undecided} ended at a limit that the Rust doesn't have"),
+        }
+    }
+}
+
+/// Prints a case with both answers.
+pub fn print_difference(replay: &Replay, case: &Case) -> io::Result<()> {
+    let replies = replay.answer(&cases::encode(std::slice::from_ref(case)))?;
+    let answered = match replies.lines().first() {
+        Some(line) => String::from_utf8_lossy(line).into_owned(),
+        None => format!("nothing; it ended with {}", replies.status),
+    };
+    let printed = &case.text[..case.text.len().min(PRINTED_BYTES)];
+    let hex: Vec<String> = printed.iter().map(|byte| format!("{byte:02x}")).collect();
+    println!("difference at {}", described(&case.request));
+    println!("text    {} bytes", case.text.len());
+    println!("        \"{}\"", printed.escape_ascii());
+    println!("hex     {}", hex.join(" "));
+    println!("Rust    {}", rust_answer(case)?);
+    println!("replay  {answered}");
+    Ok(())
+}
+
+fn described(request: &Request) -> String {
+    let letter = char::from(request.letter());
+    match request {
+        Request::Take { place, count } | Request::LookAndTake { place, count } => {
+            format!("{letter}, place {place}, count {count}")
+        }
+        Request::Read { nodes, numbers } => {
+            format!("{letter}, node slice {nodes}, number slice {numbers}")
+        }
+        Request::Infer => letter.to_string(),
+    }
+}
+
+fn rust_answer(case: &Case) -> io::Result<String> {
+    thread::scope(|scope| {
+        let answering = thread::Builder::new()
+            .stack_size(STACK_BYTES)
+            .spawn_scoped(scope, || expected(case).describe())?;
+        Ok(answering.join().expect("the Rust answers every record"))
+    })
+}

@@ -1,0 +1,117 @@
+//! From a batch with a fault to the smallest case that still has one.
+
+use crate::cases::Case;
+use crate::check::{check, Fault, Tally};
+use crate::replay::Replay;
+use driver::record::Request;
+use std::io;
+
+/// Candidates are tried together in one run of the replay program, up to so many
+/// bytes; a text that needs more is left as it is.
+const MAX_ROUND_BYTES: usize = 1 << 26;
+
+fn fault(replay: &Replay, cases: &[Case]) -> io::Result<Option<Fault>> {
+    check(replay, cases, &mut Tally::new())
+}
+
+/// A single case of the batch that has a fault by itself, if there is one.
+pub fn single_case(replay: &Replay, cases: &[Case]) -> io::Result<Option<Case>> {
+    let mut suspects = cases;
+    loop {
+        match fault(replay, suspects)? {
+            None => return Ok(None),
+            Some(Fault::Different(index)) => return Ok(Some(suspects[index].clone())),
+            Some(Fault::Broken(_)) if suspects.len() == 1 => return Ok(Some(suspects[0].clone())),
+            Some(Fault::Broken(_)) => {
+                let (first, second) = suspects.split_at(suspects.len() / 2);
+                let is_in_first = fault(replay, first)?.is_some();
+                suspects = if is_in_first { first } else { second };
+            }
+        }
+    }
+}
+
+/// A case with a fault, of which no smaller one was found.
+pub fn smallest(replay: &Replay, case: Case) -> io::Result<Case> {
+    let mut smallest = case;
+    let mut step = smallest.text.len().div_ceil(2);
+    while step > 0 {
+        let smaller = match round_bytes(&smallest, step) > MAX_ROUND_BYTES {
+            true => None,
+            false => single_case(replay, &without_parts(&smallest, step))?,
+        };
+        match smaller {
+            Some(case) => smallest = case,
+            None => step /= 2,
+        }
+    }
+    while let Some(case) = single_case(replay, &with_simpler_fields(&smallest))? {
+        smallest = case;
+    }
+    Ok(smallest)
+}
+
+fn round_bytes(case: &Case, step: usize) -> usize {
+    let length = case.text.len();
+    length * length.div_ceil(step)
+}
+
+/// The case without each of its parts of `step` bytes. A text that is UTF-8 stays so.
+fn without_parts(case: &Case, step: usize) -> Vec<Case> {
+    let is_text = |bytes: &[u8]| std::str::from_utf8(bytes).is_ok();
+    let was_text = is_text(&case.text);
+    let starts = (0..case.text.len()).step_by(step);
+    let shorter = starts.map(|start| {
+        let end = (start + step).min(case.text.len());
+        let text = [&case.text[..start], &case.text[end..]].concat();
+        let request = moved_back(case.request, start, end);
+        Case { request, text }
+    });
+    shorter
+        .filter(|case| !was_text || is_text(&case.text))
+        .collect()
+}
+
+/// The request after the bytes from `start` to `end` were taken out before its place.
+fn moved_back(request: Request, start: usize, end: usize) -> Request {
+    let moved = |place: u32| match place as usize >= end {
+        true => place - (end - start) as u32,
+        false => place,
+    };
+    match request {
+        Request::Take { place, count } => Request::Take {
+            place: moved(place),
+            count,
+        },
+        Request::LookAndTake { place, count } => Request::LookAndTake {
+            place: moved(place),
+            count,
+        },
+        other => other,
+    }
+}
+
+/// The same text, with fewer tokens demanded or from the start.
+fn with_simpler_fields(case: &Case) -> Vec<Case> {
+    let (place, count) = match case.request {
+        Request::Take { place, count } | Request::LookAndTake { place, count } => (place, count),
+        _ => return Vec::new(),
+    };
+    let simpler = [
+        (0, count),
+        (place, count / 2),
+        (place, count.saturating_sub(1)),
+    ];
+    let request = |(place, count)| match case.request {
+        Request::Take { .. } => Request::Take { place, count },
+        _ => Request::LookAndTake { place, count },
+    };
+    simpler
+        .into_iter()
+        .filter(|fields| *fields != (place, count))
+        .map(|fields| Case {
+            request: request(fields),
+            text: case.text.clone(),
+        })
+        .collect()
+}
