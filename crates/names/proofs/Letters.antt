@@ -8,7 +8,7 @@ use mathlib.Core.List.{List, [], _∷_, map, flatMap}
 use lib.Dec.{leb}
 use lib.ListN.{length}
 use borrow.Author.Tests.{leb-true, le-leb, lt-leb, eqb-true, ne-eqb}
-use Rattle.scan.specs.Bytes.{isInner, isNumberlike}
+use Rattle.scan.specs.Bytes.{isInner, isNumberlike, isAscii}
 use Rattle.scan.specs.Front.{begins}
 use Rattle.words.specs.Words.{upper, isLower, sameByte, sameWord}
 use Rattle.names.specs.declared.Name.{Name}
@@ -17,7 +17,7 @@ use Rattle.names.specs.Strings.{empty}
 use Rattle.names.specs.Lists.{every}
 use Rattle.names.specs.Names.{spellings, lookup, meaning, ending, isEmptyWord, endings, endingRow}
 use Rattle.names.specs.Table.{isKnown}
-use Rattle.names.specs.Letters.{isLetter, isAscii}
+use Rattle.names.specs.Letters.{isLetter}
 use Rattle.names.proofs.Lists.{every-mem, every-head, every-weaker}
 use Rattle.names.proofs.Lookup.{found}
 use Rattle.names.proofs.Table.{means-spelled, not-known}

@@ -7,7 +7,3 @@ use Rattle.words.specs.Words.{upper}
 -- `A` to `Z`, in either case
 abbrev pub isLetter : ℕ → Bool
 isLetter b = leb 65 (upper b) && leb (upper b) 90
-
--- a byte of ASCII
-abbrev pub isAscii : ℕ → Bool
-isAscii b = leb b 127

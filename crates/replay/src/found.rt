@@ -1,7 +1,7 @@
 // What a demand for a token found: compared, and printed as the place where it starts, `word@0`, with the span
 // of a number's text or of a word, `word@0:0+5`.
-use crate::output::put;
-use crate::output::put_number;
+use printing::put;
+use printing::put_number;
 use tokenizer::Found;
 use tokenizer::Token;
 

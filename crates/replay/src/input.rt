@@ -1,6 +1,6 @@
 // Standard input, read through a buffer that holds at least one whole record.
-use crate::numbers::least;
 use libc::STDIN_FILENO;
+use printing::least;
 ghost use Prim.Native.Nat.{_≤_};
 ghost use lib.ListN.{length};
 

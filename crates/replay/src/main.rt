@@ -3,21 +3,25 @@
 // the letter's fields as u32 each, and what is left. A letter has an arm in `answer`, and a file:
 //
 //   t, p  tokens.rt
+//   r     reading.rt
+//   i     inferred.rt
 //
 // A record that is cut, too large or of another letter is answered `bad record`.
 mod found;
+mod inferred;
 mod input;
 mod numbers;
-mod output;
+mod reading;
 mod tokens;
 
 use input::State;
 use input::refill;
 use numbers::U32_BYTES;
-use numbers::least;
 use numbers::u32_at;
-use output::flush;
-use output::put_bad_record;
+use printing::flush;
+use printing::least;
+use printing::put;
+use reading::MAX_SLICE;
 use tokens::Demand;
 
 // A record with a longer text is too large.
@@ -29,20 +33,40 @@ const INPUT_BYTES: usize = 1_048_576;
 
 const OUTPUT_BYTES: usize = 65_536;
 
-// The line of a record, given what follows its count.
-fn answer(record: &[u8], out: &mut [u8], at: usize) -> usize {
+// Puts the whole line of a record that has no answer.
+fn put_bad_record(out: &mut [u8], at: usize) -> usize {
+    put(out, at, b"bad record\n")
+}
+
+// The line of a record, given what follows its count. Slices of any length that a letter asks for are parts of
+// `nodes` and `numbers`.
+fn answer(
+    record: &[u8],
+    nodes: &mut [u32],
+    numbers: &mut [u32],
+    out: &mut [u8],
+    at: usize,
+) -> usize {
     if record.len() == 0 {
         return put_bad_record(out, at);
     }
     match record[0] {
         b't' => tokens::answer(record, Demand::Take, out, at),
         b'p' => tokens::answer(record, Demand::LookAndTake, out, at),
+        b'r' => reading::answer(record, nodes, numbers, out, at),
+        b'i' => inferred::answer(record, out, at),
         _ => put_bad_record(out, at),
     }
 }
 
 // Answers the record at the front of the unread input if it is there whole, and else reads on.
-fn turn(input: &mut [u8], out: &mut [u8], mut s: State) -> State {
+fn turn(
+    input: &mut [u8],
+    nodes: &mut [u32],
+    numbers: &mut [u32],
+    out: &mut [u8],
+    mut s: State,
+) -> State {
     let have = least(s.have, input.len());
     let from = least(s.from, have);
     let at = s.at;
@@ -61,7 +85,7 @@ fn turn(input: &mut [u8], out: &mut [u8], mut s: State) -> State {
         return refill(input, s);
     }
     let end = start + count;
-    s.at = answer(&input[start..end], out, at);
+    s.at = answer(&input[start..end], nodes, numbers, out, at);
     s.from = end;
     s
 }
@@ -77,7 +101,12 @@ fn put_cut_record(out: &mut [u8], s: State) -> usize {
 
 // Nothing says that the input ends, so the turns are counted down from a number that no run uses up. The buffers
 // come as arrays, whose types tell their lengths: lent as slices, the proof of `main` would have to count them out.
-fn run(input: &mut [u8; INPUT_BYTES], out: &mut [u8; OUTPUT_BYTES]) {
+fn run(
+    input: &mut [u8; INPUT_BYTES],
+    nodes: &mut [u32; MAX_SLICE],
+    numbers: &mut [u32; MAX_SLICE],
+    out: &mut [u8; OUTPUT_BYTES],
+) {
     let mut s = State {
         from: 0,
         have: 0,
@@ -87,7 +116,7 @@ fn run(input: &mut [u8; INPUT_BYTES], out: &mut [u8; OUTPUT_BYTES]) {
     };
     let mut turns = u64::MAX;
     while turns > 0 && s.more {
-        s = turn(input, out, s);
+        s = turn(input, nodes, numbers, out, s);
         turns -= 1;
     }
     let at = put_cut_record(out, s);
@@ -96,6 +125,8 @@ fn run(input: &mut [u8; INPUT_BYTES], out: &mut [u8; OUTPUT_BYTES]) {
 
 fn main() {
     let mut input = [0u8; INPUT_BYTES];
+    let mut nodes = [0u32; MAX_SLICE];
+    let mut numbers = [0u32; MAX_SLICE];
     let mut out = [0u8; OUTPUT_BYTES];
-    run(&mut input, &mut out);
+    run(&mut input, &mut nodes, &mut numbers, &mut out);
 }

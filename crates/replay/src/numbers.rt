@@ -1,17 +1,9 @@
-// Small functions on numbers.
+// Numbers of a record.
 ghost use Prim.Native.Nat.{_≤_};
 
 pub(crate) const U32_BYTES: usize = 4;
 
 const BYTE: usize = 256;
-
-// The lesser of two numbers. It keeps a place inside its buffer where no proof says that it lies there.
-pub(crate) fn least(a: usize, b: usize) -> usize
-    ensures { λ r. ⌜ r ≤ a ⌝ }
-    ensures { λ r. ⌜ r ≤ b ⌝ }
-{
-    if a < b { a } else { b }
-}
 
 fn wide(b: u8) -> usize
     ensures { λ r. ⌜ r ≤ 255 ⌝ }

@@ -3,8 +3,8 @@ use crate::MAX_TEXT;
 use crate::found::put_found;
 use crate::found::same_found;
 use crate::numbers::u32_at;
-use crate::output::put;
-use crate::output::put_bad_record;
+use crate::put_bad_record;
+use printing::put;
 use tokenizer::Cursor;
 use tokenizer::Found;
 

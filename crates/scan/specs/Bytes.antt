@@ -75,3 +75,7 @@ isPoint b = eqb b point
 -- "A token starting with `.`, `-`, `+` or a digit is a number".
 abbrev pub isNumberlike : ℕ → Bool
 isNumberlike b = isDigit b || isPoint b || isSign b
+
+-- a byte of ASCII
+abbrev pub isAscii : ℕ → Bool
+isAscii b = leb b 0x7F

@@ -12,7 +12,8 @@ use lib.ListN.{length, take, drop, length-append, length-drop}
 use lib.Seq.{take-length, take-add, drop-drop, drop-append-seam}
 use Rattle.scan.specs.Front.{rest}
 use Rattle.scan.specs.Runs.{Many, none, more}
-use Rattle.utf8.specs.Utf8.{Range, holds, table, fits, firstFit, width, firstIll, isUtf8, isAscii}
+use Rattle.utf8.specs.Utf8.{Range, holds, table, fits, firstFit, width, firstIll, isUtf8}
+use Rattle.scan.specs.Bytes.{isAscii}
 use Rattle.utf8.specs.Leads.{leads}
 use Rattle.utf8.specs.Whole.{Fills, full, byte, Char, char, Whole, empty, then}
 use Rattle.utf8.proofs.Table.{Rising, top, up, table-rises, within}

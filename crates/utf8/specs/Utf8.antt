@@ -20,9 +20,6 @@ only b = b ‥ b
 abbrev pub holds : Range → ℕ → Bool
 holds r b = leb (r .low) b && leb b (r .high)
 
-abbrev pub isAscii : ℕ → Bool
-isAscii b = leb b 0x7F
-
 -- Table 3-7, row by row: the range of each byte of a character
 unfoldable pub table : List (List Range)
 table =

@@ -1,18 +1,33 @@
 //! Both sides on the same cases.
 
 use crate::cases::{self, Case};
-use crate::expected::{expected, Expected, Outcome};
+use crate::expected::{expected, Basis, Expected};
 use crate::replay::{Replay, Replies};
 use driver::answer::STACK_BYTES;
 use std::collections::BTreeMap;
 use std::io;
 use std::thread;
 
-/// How many records of a letter came out how.
+/// How many records of a letter agreed, by what the answer rests on.
 #[derive(Clone, Copy, Debug, Default, PartialEq, Eq)]
 pub struct Count {
-    pub agreed: usize,
-    pub undecided: usize,
+    pub by_rust: usize,
+    pub at_model_place: usize,
+    pub at_model_limit: usize,
+}
+
+impl Count {
+    pub fn agreed(&self) -> usize {
+        self.by_rust + self.at_model_place + self.at_model_limit
+    }
+
+    fn add(&mut self, basis: Basis) {
+        *match basis {
+            Basis::Rust => &mut self.by_rust,
+            Basis::Place => &mut self.at_model_place,
+            Basis::Limit => &mut self.at_model_limit,
+        } += 1;
+    }
 }
 
 pub type Tally = BTreeMap<u8, Count>;
@@ -47,12 +62,11 @@ fn compare(
 ) -> Option<Fault> {
     let lines = replies.lines();
     for (index, (expected, line)) in expectations.iter().zip(&lines).enumerate() {
-        let count = tally.entry(cases[index].request.letter()).or_default();
-        match expected.compare(line) {
-            Outcome::Agreed => count.agreed += 1,
-            Outcome::Undecided => count.undecided += 1,
-            Outcome::Different => return Some(Fault::Different(index)),
+        if expected.line.as_bytes() != *line {
+            return Some(Fault::Different(index));
         }
+        let count = tally.entry(cases[index].request.letter()).or_default();
+        count.add(expected.basis);
     }
     if !replies.status.success() || lines.len() != cases.len() {
         let message = format!(

@@ -1,18 +1,17 @@
-//! What the replay program has to answer, as far as the Rust decides it.
+//! What the replay program has to answer: what the Rust says, and where it says
+//! nothing (the place of a refusal, the limits) what the model says.
 
 use crate::any_bytes;
 use crate::cases::Case;
+use crate::model::{self, Limits, Refusal, Store, NO_NODE_ROW, NO_NUMBER_ROW, TOO_DEEP};
 use driver::inferred::{self, Inference};
 use driver::reader::{self, Reading, Tree};
 use driver::record::Request;
 use driver::tokens::{self, Demand, Seen, Span};
 
-// Refusals of document 01 that the Rust doesn't have.
+// More refusals of document 01 that the Rust doesn't have.
 const TEXT_TOO_LONG: u32 = 1;
 const ILL_FORMED_UTF8: u32 = 2;
-const NO_NODE_ROW: u32 = 3;
-const NO_NUMBER_ROW: u32 = 4;
-const TOO_DEEP: u32 = 5;
 const NON_ASCII: u32 = 24;
 
 /// The reader and infer_type refuse longer texts.
@@ -20,74 +19,47 @@ const MAX_READ_BYTES: usize = 65_535;
 /// So many non-empty collections may lie on a path.
 const MAX_DEPTH: usize = 32;
 
-#[derive(Clone, Debug, PartialEq, Eq)]
-pub enum Expected {
-    /// The whole line.
-    Line(String),
-    /// The reader refuses with this number; the Rust doesn't tell the place. Its
-    /// own limits may have ended the reading before.
-    Refusal(u32),
-    /// The Rust accepts, but the tree passes limits that the Rust doesn't have: one of
-    /// their numbers.
-    Limit(Vec<u32>),
-}
-
+/// What an expected line rests on.
 #[derive(Clone, Copy, Debug, PartialEq, Eq)]
-pub enum Outcome {
-    Agreed,
-    /// The reader met a limit of its own; the Rust can't tell whether rightly.
-    Undecided,
-    Different,
+pub enum Basis {
+    /// The Rust; refusals 1, 2 and 24 are tests of single bytes.
+    Rust,
+    /// The Rust's refusal, at the model's place.
+    Place,
+    /// The model: it ends at a limit that the Rust doesn't have.
+    Limit,
 }
 
-/// The Rust's side of a case. Nesting has no limit there: the stack must be large.
-pub fn expected(case: &Case) -> Expected {
-    match case.request {
-        Request::Take { place, count } => {
-            Expected::Line(token_line(&case.text, place, count, Demand::Take))
-        }
-        Request::LookAndTake { place, count } => {
-            Expected::Line(token_line(&case.text, place, count, Demand::LookAndTake))
-        }
-        Request::Read { nodes, numbers } => reading(&case.text, nodes, numbers),
-        Request::Infer => Expected::Line(inference_line(&case.text)),
-    }
+#[derive(Clone, Debug, PartialEq, Eq)]
+pub struct Expected {
+    pub line: String,
+    pub basis: Basis,
 }
 
 impl Expected {
-    pub fn compare(&self, line: &[u8]) -> Outcome {
-        let agreed = match self {
-            Expected::Line(expected) => expected.as_bytes() == line,
-            Expected::Limit(numbers) => {
-                refusal_in(line).is_some_and(|number| numbers.contains(&number))
-            }
-            Expected::Refusal(expected) => match refusal_in(line) {
-                Some(NO_NODE_ROW | NO_NUMBER_ROW | TOO_DEEP) => return Outcome::Undecided,
-                number => number == Some(*expected),
-            },
-        };
-        match agreed {
-            true => Outcome::Agreed,
-            false => Outcome::Different,
-        }
+    fn by_rust(line: String) -> Self {
+        let basis = Basis::Rust;
+        Expected { line, basis }
     }
 
-    pub fn describe(&self) -> String {
-        match self {
-            Expected::Line(line) => line.clone(),
-            Expected::Refusal(number) => format!("refusal {number}"),
-            Expected::Limit(numbers) => format!("one of the refusals {numbers:?}"),
-        }
+    fn refusal(number: u32, place: usize, basis: Basis) -> Self {
+        let line = format!("{number} {place} 0 0 ;  ;  ; 0");
+        Expected { line, basis }
     }
 }
 
-/// The number of a refusing reader's line, if all that follows the place is empty.
-fn refusal_in(line: &[u8]) -> Option<u32> {
-    let line = std::str::from_utf8(line).ok()?;
-    let head = line.strip_suffix(" 0 0 ;  ;  ; 0")?;
-    let (number, place) = head.split_once(' ')?;
-    place.parse::<u32>().ok()?;
-    number.parse().ok().filter(|number| *number != 0)
+/// The answer to a case. Nesting has no limit in the Rust: the stack must be large.
+pub fn expected(case: &Case) -> Expected {
+    match case.request {
+        Request::Take { place, count } => {
+            Expected::by_rust(token_line(&case.text, place, count, Demand::Take))
+        }
+        Request::LookAndTake { place, count } => {
+            Expected::by_rust(token_line(&case.text, place, count, Demand::LookAndTake))
+        }
+        Request::Read { nodes, numbers } => reading(&case.text, nodes, numbers),
+        Request::Infer => Expected::by_rust(inference_line(&case.text)),
+    }
 }
 
 fn token_line(text: &[u8], place: u32, count: u32, demand: Demand) -> String {
@@ -98,19 +70,60 @@ fn token_line(text: &[u8], place: u32, count: u32, demand: Demand) -> String {
 fn reading(bytes: &[u8], node_places: u32, number_places: u32) -> Expected {
     let text = match readable(bytes) {
         Ok(text) => text,
-        Err((number, place)) => {
-            return Expected::Line(format!("{number} {place} 0 0 ;  ;  ; 0"));
-        }
+        Err((number, place)) => return Expected::refusal(number, place, Basis::Rust),
     };
-    match reader::read(text) {
-        Reading::Refused { number, .. } => Expected::Refusal(number),
-        Reading::Accepted(tree) => {
-            let passed = passed_limits(&tree, node_places, number_places);
-            match passed.is_empty() {
-                true => Expected::Line(accepted_line(text, &tree)),
-                false => Expected::Limit(passed),
-            }
+    let limits = Limits {
+        nodes: (node_places / 3) as usize,
+        numbers: (number_places / 2) as usize,
+        depth: MAX_DEPTH,
+    };
+    let by_rust = reader::read(text);
+    let model_alone = model::read(text, Limits::NONE);
+    assert!(
+        is_same(text, &by_rust, &model_alone),
+        "the model reads {text:?} otherwise than the Rust"
+    );
+    let limited = model::read(text, limits);
+    match (by_rust, limited.err()) {
+        (by_rust, Some(at_limit)) if is_limit(at_limit.number) => {
+            assert!(may_end_at(&by_rust, at_limit.number, limits));
+            Expected::refusal(at_limit.number, at_limit.place, Basis::Limit)
         }
+        (Reading::Refused { number, .. }, Some(refusal)) => {
+            assert_eq!(number, refusal.number);
+            Expected::refusal(number, refusal.place, Basis::Place)
+        }
+        (Reading::Accepted(tree), None) => {
+            assert!(passed_limits(&tree, limits).is_empty());
+            Expected::by_rust(accepted_line(text, &tree))
+        }
+        _ => panic!("the limits change how the model reads {text:?}"),
+    }
+}
+
+/// Whether the model without limits says what the Rust says.
+fn is_same(text: &str, by_rust: &Reading, by_model: &Result<Store, Refusal>) -> bool {
+    match (by_rust, by_model) {
+        (Reading::Refused { number, .. }, Err(refusal)) => *number == refusal.number,
+        (Reading::Accepted(tree), Ok(store)) => {
+            let texts = tree.numbers.iter().map(|number| number.text.as_str());
+            let spans = store.numbers.iter();
+            let texts_in_spans = spans.map(|span| &text[span.start..span.start + span.length]);
+            tree.nodes == store.nodes && texts.eq(texts_in_spans)
+        }
+        _ => false,
+    }
+}
+
+fn is_limit(number: u32) -> bool {
+    [NO_NODE_ROW, NO_NUMBER_ROW, TOO_DEEP].contains(&number)
+}
+
+/// A text that the Rust accepts ends at a limit only if its tree passes that.
+fn may_end_at(by_rust: &Reading, number: u32, limits: Limits) -> bool {
+    match by_rust {
+        Reading::Accepted(tree) => passed_limits(tree, limits).contains(&number),
+        Reading::Refused { .. } => true,
     }
 }
 
@@ -122,13 +135,11 @@ fn readable(bytes: &[u8]) -> Result<&str, (u32, usize)> {
     std::str::from_utf8(bytes).map_err(|error| (ILL_FORMED_UTF8, error.valid_up_to()))
 }
 
-fn passed_limits(tree: &Tree, node_places: u32, number_places: u32) -> Vec<u32> {
-    let node_rows = (node_places / 3) as usize;
-    let number_rows = (number_places / 2) as usize;
+fn passed_limits(tree: &Tree, limits: Limits) -> Vec<u32> {
     let limits = [
-        (NO_NODE_ROW, tree.nodes.len() > node_rows),
-        (NO_NUMBER_ROW, tree.numbers.len() > number_rows),
-        (TOO_DEEP, tree.depth > MAX_DEPTH),
+        (NO_NODE_ROW, tree.nodes.len() > limits.nodes),
+        (NO_NUMBER_ROW, tree.numbers.len() > limits.numbers),
+        (TOO_DEEP, tree.depth > limits.depth),
     ];
     let passed = limits.into_iter().filter(|(_, is_passed)| *is_passed);
     passed.map(|(number, _)| number).collect()
@@ -191,37 +202,47 @@ mod tests {
 
     #[test]
     fn bytes_that_are_no_text_have_tokens_too() {
-        let take = |place, text: &[u8]| answer(Request::Take { place, count: 3 }, text);
-        assert_eq!(
-            take(0, b"(\xff\xfex 1"),
-            Expected::Line("(@0 word@1:1+3 number@5:5+1".to_string())
-        );
-        assert_eq!(
-            take(1, "京 2".as_bytes()),
-            Expected::Line("word@1:1+2 number@4:4+1 none@5".to_string())
-        );
-        assert_eq!(
-            take(9, b"\xff"),
-            Expected::Line("none@1 none@1 none@1".to_string())
-        );
+        let take = |place, text: &[u8]| answer(Request::Take { place, count: 3 }, text).line;
+        assert_eq!(take(0, b"(\xff\xfex 1"), "(@0 word@1:1+3 number@5:5+1");
+        let inside_character = take(1, "京 2".as_bytes());
+        assert_eq!(inside_character, "word@1:1+2 number@4:4+1 none@5");
+        assert_eq!(take(9, b"\xff"), "none@1 none@1 none@1");
     }
 
     #[test]
     fn readings() {
-        let read =
-            |nodes, numbers, text: &str| answer(Request::Read { nodes, numbers }, text.as_bytes());
-        assert_eq!(
-            read(3, 4, "POINT(++4 +-4)x 5"),
-            Expected::Line("0 0 1 2 ; 1 0 1 ; 7 2 11 2 ; 0".to_string())
+        for (nodes, numbers, text, line, basis) in [
+            (
+                3,
+                4,
+                "POINT(++4 +-4)x 5",
+                "0 0 1 2 ; 1 0 1 ; 7 2 11 2 ; 0",
+                Basis::Rust,
+            ),
+            (2, 4, "POINT(1 2)", "3 5 0 0 ;  ;  ; 0", Basis::Limit),
+            (3, 3, "POINT(1 2)", "4 8 0 0 ;  ;  ; 0", Basis::Limit),
+            (3, 4, "POINT(x 2)", "13 8 0 0 ;  ;  ; 0", Basis::Place),
+            (0, 4, "POINT(x 2)", "3 5 0 0 ;  ;  ; 0", Basis::Limit),
+            (
+                3,
+                0,
+                "MULTIPOINT EMPTY",
+                "0 0 1 0 ; 4 0 0 ;  ; 0",
+                Basis::Rust,
+            ),
+        ] {
+            let expected = answer(Request::Read { nodes, numbers }, text.as_bytes());
+            let line = line.to_string();
+            assert_eq!(expected, Expected { line, basis }, "{text:?}");
+        }
+        let ill_formed = answer(
+            Request::Read {
+                nodes: 3,
+                numbers: 4,
+            },
+            b"POINT\xff",
         );
-        assert_eq!(read(2, 4, "POINT(1 2)"), Expected::Limit(vec![3]));
-        assert_eq!(read(3, 3, "POINT(1 2)"), Expected::Limit(vec![4]));
-        assert_eq!(read(3, 4, "POINT(x 2)"), Expected::Refusal(13));
-        let refused = Expected::Refusal(13);
-        assert_eq!(refused.compare(b"13 8 0 0 ;  ;  ; 0"), Outcome::Agreed);
-        assert_eq!(refused.compare(b"13 8 0 0 ;  ;  ; 1"), Outcome::Different);
-        assert_eq!(refused.compare(b"15 8 0 0 ;  ;  ; 0"), Outcome::Different);
-        assert_eq!(refused.compare(b"3 5 0 0 ;  ;  ; 0"), Outcome::Undecided);
+        assert_eq!(ill_formed.line, "2 5 0 0 ;  ;  ; 0");
     }
 
     #[test]
@@ -233,7 +254,7 @@ mod tests {
             ("POLYGON Z(京", "0 0 3 1"),
         ] {
             let inferred = answer(Request::Infer, text.as_bytes());
-            assert_eq!(inferred, Expected::Line(line.to_string()), "{text:?}");
+            assert_eq!(inferred.line, line, "{text:?}");
         }
     }
 }

@@ -1,13 +1,16 @@
-//! Fixed lists of records with the Rust's answers, for the gate to replay: the
-//! Rust's own tests, the edges of document 01, then generated texts. The order of
-//! the sections is fixed and the seed decides the rest.
+//! Fixed lists of records with the expected answers, for the gate to replay: the
+//! Rust's own tests, the edges of document 01, then generated texts; first under the
+//! letters of tokens, then under `r` and `i`. The order of the sections is fixed and
+//! the seed decides the rest.
 
 use crate::cases::{self, Case, Letter};
+use crate::expected::expected;
 use crate::random::Random;
 use crate::texts::Texts;
 use driver::answer::{self, NOT_COMPARABLE, NOT_UTF8, STACK_BYTES};
 use driver::record::Request;
 use driver::tokens;
+use std::collections::BTreeMap;
 use std::path::Path;
 use std::{fs, io, thread};
 
@@ -92,30 +95,81 @@ const NUMBER_TEXTS: &str = "\
     123456789012345678901234567890 0.00000000000000000000000000000000001 \
     179769313486231570000e289 4.9e-324";
 
-/// Writes `stdin` and `stdout` into the directory, with so many generated answers.
+/// Texts with room for one node row or one number row less than they need, or for
+/// just enough: node places, number places, text.
+const TIGHT_ROOMS: [(u32, u32, &str); 14] = [
+    (0, 0, ""),
+    (0, 4, "POINT(1 2)"),
+    (2, 4, "POINT(1 2)"),
+    (3, 2, "POINT(1 2)"),
+    (3, 3, "POINT(1 2)"),
+    (3, 4, "POINT(1 2)"),
+    (5, 5, "POINT(1 2)"),
+    (0, 0, "POINT EMPTY"),
+    (3, 0, "POINT EMPTY"),
+    (3, 9, "MULTIPOINT("),
+    (3, 9, "MULTIPOINT()"),
+    (6, 9, "MULTIPOINT(1 2,3 4)"),
+    (5, 9, "GEOMETRYCOLLECTION(POINT(1 2))"),
+    (3, 9, "GEOMETRYCOLLECTION(POINT x"),
+];
+
+/// What begins a collection; open as often as may be, and once more.
+const COLLECTION: &str = "GEOMETRYCOLLECTION(";
+const MOST_OPEN: usize = 32;
+
+/// The longest text that is read.
+const LONGEST_READ: usize = 65_535;
+
+/// More edges of document 01 for infer_type.
+const INFERRED: &[&str] = &[
+    "POINTZ EMPTY",
+    "POINT Z EMPTY",
+    "POINTEMPTY",
+    "POINT EMPTY京",
+    "POINT EMPTY(",
+    "LINEARRING(1 2)",
+    "POıNT(",
+    "LINEſTRING(1 2)",
+    "\u{a0}POINT(",
+    "\x0b\x0c POLYGON ZM(",
+    "京",
+    "POLYGON M(京)",
+];
+
+/// How many generated records of `r` and of `i` there are, spread over their answers.
+const READINGS: usize = 3_000;
+const INFERENCES: usize = 500;
+
+/// Writes `stdin` and `stdout` into the directory, with so many generated answers of
+/// tokens.
 pub fn write(seed: u64, generated: usize, directory: &Path) -> io::Result<()> {
     let mut cases = tested();
     cases.extend(edges());
     cases.extend(places());
     cases.extend(generate(seed, generated));
+    cases.extend(edges_read());
+    cases.extend(edges_inferred());
+    cases.extend(spread(seed, Letter::Read, READINGS));
+    cases.extend(spread(seed, Letter::Infer, INFERENCES));
     let lines = answers(&cases)?;
     fs::create_dir_all(directory)?;
     fs::write(directory.join("stdin"), cases::encode(&cases))?;
     fs::write(directory.join("stdout"), lines)?;
-    println!("{} records with the Rust's answers", cases.len());
+    println!("{} records with their answers", cases.len());
     Ok(())
 }
 
-/// The Rust's line for each case.
+/// The line for each case.
 fn answers(cases: &[Case]) -> io::Result<String> {
     thread::scope(|scope| {
         let answering = thread::Builder::new()
             .stack_size(STACK_BYTES)
             .spawn_scoped(scope, || {
-                let lines = cases.iter().map(|case| answer::line(&case.record()) + "\n");
+                let lines = cases.iter().map(|case| expected(case).line + "\n");
                 lines.collect::<String>()
             })?;
-        Ok(answering.join().expect("the Rust answers every record"))
+        Ok(answering.join().expect("every record has an answer"))
     })
 }
 
@@ -196,4 +250,90 @@ fn generate(seed: u64, count: usize) -> Vec<Case> {
 fn has_answer(case: &Case) -> bool {
     let line = answer::line(&case.record());
     line != NOT_UTF8 && line != NOT_COMPARABLE
+}
+
+/// The edges as readings: with room for all, in tight rooms, at the limits of depth
+/// and length.
+fn edges_read() -> Vec<Case> {
+    let roomy = [""].iter().chain(EDGES).map(|text| {
+        let places = 6 * text.len() as u32;
+        read_case(places, places, text.to_string())
+    });
+    let tight = TIGHT_ROOMS
+        .iter()
+        .map(|(nodes, numbers, text)| read_case(*nodes, *numbers, text.to_string()));
+    let nested = [MOST_OPEN, MOST_OPEN + 1].map(|depth| {
+        let text = COLLECTION.repeat(depth) + "POINT(1 2" + &")".repeat(depth + 1);
+        read_case(3 * 34, 4, text)
+    });
+    // 5 before 3 at one `(`.
+    let deep_and_full = read_case(3 * 32, 0, COLLECTION.repeat(MOST_OPEN + 1));
+    let long =
+        [LONGEST_READ, LONGEST_READ + 1].map(|length| read_case(3, 4, point_and_blanks(length)));
+    let cases = roomy.chain(tight).chain(nested);
+    cases.chain([deep_and_full]).chain(long).collect()
+}
+
+fn read_case(nodes: u32, numbers: u32, text: String) -> Case {
+    Case {
+        request: Request::Read { nodes, numbers },
+        text: text.into_bytes(),
+    }
+}
+
+fn edges_inferred() -> Vec<Case> {
+    let short = EDGES.iter().chain(INFERRED).map(|text| text.to_string());
+    let texts = short.chain([point_and_blanks(LONGEST_READ + 1)]);
+    let cases = texts.map(|text| Case {
+        request: Request::Infer,
+        text: text.into_bytes(),
+    });
+    cases.collect()
+}
+
+fn point_and_blanks(length: usize) -> String {
+    const POINT: &str = "POINT(1 2)";
+    POINT.to_string() + &" ".repeat(length - POINT.len())
+}
+
+/// A refusal's number, or 0 and the kind that was read.
+type Class = (u32, u32);
+
+/// Generated texts under one letter, spread evenly over the classes of answers and, in
+/// each class, over the texts that were drawn.
+fn spread(seed: u64, letter: Letter, count: usize) -> Vec<Case> {
+    const LONGEST: usize = 64;
+    const DRAWN: usize = 1_000_000;
+    let mut texts = Texts::new(seed);
+    let mut random = Random::new(!seed);
+    let mut by_class: BTreeMap<Class, Vec<Case>> = BTreeMap::new();
+    for _ in 0..DRAWN {
+        let text = texts.next_short();
+        if text.len() <= LONGEST {
+            let request = letter.request(&mut random, &text);
+            let case = Case { request, text };
+            by_class.entry(class(&case)).or_default().push(case);
+        }
+    }
+    let share = count / by_class.len();
+    let cases = by_class.into_values().flat_map(|cases| {
+        let step = (cases.len() / share).max(1);
+        cases.into_iter().step_by(step).take(share)
+    });
+    cases.collect()
+}
+
+fn class(case: &Case) -> Class {
+    let line = expected(case).line;
+    let numbers: Vec<u32> = line
+        .split_whitespace()
+        .filter_map(|field| field.parse().ok())
+        .collect();
+    match (numbers[0], case.request) {
+        // `0 0 NODES NUMBERS ; KIND ..`
+        (0, Request::Read { .. }) => (0, numbers[4]),
+        // `0 0 KIND DIMENSION`
+        (0, _) => (0, numbers[2]),
+        (refusal, _) => (refusal, 0),
+    }
 }

@@ -9,6 +9,7 @@ mod damage;
 mod expected;
 mod grammar;
 mod lists;
+mod model;
 mod numbers;
 mod random;
 mod replay;
@@ -26,7 +27,7 @@ use std::process::ExitCode;
 use texts::Texts;
 
 /// The letters that the replay program knows so far.
-const KNOWN_LETTERS: &str = "tp";
+const KNOWN_LETTERS: &str = "tpri";
 /// One run of the replay program answers the records of so many texts.
 const TEXTS_PER_RUN: usize = 20_000;
 

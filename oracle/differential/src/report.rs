@@ -15,10 +15,14 @@ pub fn print_tally(seed: u64, texts: usize, tally: &Tally) {
     println!("seed {seed}, {texts} texts, no difference");
     for (letter, count) in tally {
         let letter = char::from(*letter);
-        print!("{letter}: {} records agreed", count.agreed);
-        match count.undecided {
-            0 => println!(),
-            undecided => println!(", {undecided} ended at a limit that the Rust doesn't have"),
+        println!("{letter}: {} records agreed", count.agreed());
+        if count.by_rust < count.agreed() {
+            println!("   {} with the Rust alone", count.by_rust);
+            println!(
+                "   {} with its refusal and the model's place",
+                count.at_model_place
+            );
+            println!("   {} with the model at a limit", count.at_model_limit);
         }
     }
 }
@@ -33,11 +37,11 @@ pub fn print_difference(replay: &Replay, case: &Case) -> io::Result<()> {
     let printed = &case.text[..case.text.len().min(PRINTED_BYTES)];
     let hex: Vec<String> = printed.iter().map(|byte| format!("{byte:02x}")).collect();
     println!("difference at {}", described(&case.request));
-    println!("text    {} bytes", case.text.len());
-    println!("        \"{}\"", printed.escape_ascii());
-    println!("hex     {}", hex.join(" "));
-    println!("Rust    {}", rust_answer(case)?);
-    println!("replay  {answered}");
+    println!("text     {} bytes", case.text.len());
+    println!("         \"{}\"", printed.escape_ascii());
+    println!("hex      {}", hex.join(" "));
+    println!("expected {}", expected_line(case)?);
+    println!("replay   {answered}");
     Ok(())
 }
 
@@ -54,11 +58,11 @@ fn described(request: &Request) -> String {
     }
 }
 
-fn rust_answer(case: &Case) -> io::Result<String> {
+fn expected_line(case: &Case) -> io::Result<String> {
     thread::scope(|scope| {
         let answering = thread::Builder::new()
             .stack_size(STACK_BYTES)
-            .spawn_scoped(scope, || expected(case).describe())?;
+            .spawn_scoped(scope, || expected(case).line)?;
         Ok(answering.join().expect("the Rust answers every record"))
     })
 }

@@ -12,13 +12,13 @@ use wkt::Wkt;
 /// A row of the store: kind, dimension, parts.
 pub type NodeRow = [u32; 3];
 
-const POINT: u32 = 1;
-const LINE_STRING: u32 = 2;
-const POLYGON: u32 = 3;
-const MULTI_POINT: u32 = 4;
-const MULTI_LINE_STRING: u32 = 5;
-const MULTI_POLYGON: u32 = 6;
-const GEOMETRY_COLLECTION: u32 = 7;
+pub const POINT: u32 = 1;
+pub const LINE_STRING: u32 = 2;
+pub const POLYGON: u32 = 3;
+pub const MULTI_POINT: u32 = 4;
+pub const MULTI_LINE_STRING: u32 = 5;
+pub const MULTI_POLYGON: u32 = 6;
+pub const GEOMETRY_COLLECTION: u32 = 7;
 
 /// What the Rust's reader says, and the number that document 01 gives it.
 const REFUSALS: [(u32, &str); 13] = [

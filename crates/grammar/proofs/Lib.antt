@@ -1,0 +1,13 @@
+pub mod Demand
+pub mod Loops
+pub mod Tokens
+pub mod Fuel
+pub mod Found
+pub mod WellRead
+pub mod Later
+pub mod After
+pub mod Lexemes
+pub mod Lexing
+pub mod Back
+pub mod Ascii
+pub mod Canon

@@ -1,0 +1,24 @@
+-- What reading a text comes to, with room for N node rows and M number rows.
+use mathlib.Core.Bool.{cond}
+use mathlib.Core.List.{List}
+use Prim.Native.Nat.{ℕ}
+use lib.ListN.{length}
+use Rattle.limits.specs.Limits.{textLimit, overLimit}
+use Rattle.utf8.specs.Utf8.{isUtf8, firstIll}
+use Rattle.tokenizer.specs.Lex.{lex}
+use Rattle.grammar.specs.Demand.{run, answerIn}
+use Rattle.grammar.specs.Grammar.{Got, refused, refusal, root}
+
+-- how many collections may be open: "a 33rd open collection" is refused
+abbrev pub depthLimit : ℕ
+depthLimit = 32
+
+-- the count down of the comma loops: more than any text has tokens, and the same for all texts
+abbrev pub enough : ℕ
+enough = 4294967296
+
+-- "Order for reading: 1, 2, then as met". "What follows the root is unread."
+unfoldable pub reading : ℕ → ℕ → List ℕ → Got
+reading N M text =
+    cond (overLimit (length text)) (refused (refusal 1 textLimit))
+    (cond (isUtf8 text) (answerIn (run (root N M enough depthLimit) (lex 0 text))) (refused (refusal 2 (firstIll text))))

@@ -1,0 +1,5 @@
+pub mod Search
+pub mod Dimension
+pub mod Part
+pub mod Infer
+pub mod Answers

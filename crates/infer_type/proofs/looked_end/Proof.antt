@@ -1,0 +1,58 @@
+-- `infer_type::looked_end` meets its contract. The loop's invariant: the scan from `i` on ends where it is to end.
+-- Assumes nothing.
+use mathlib.Core.Path.{_≡_, refl, sym, _∙_}
+use Prim.Native.Nat.{_-_}
+use lib.ListN.{length}
+use borrow.Author.Needs.{needs}
+use Rattle.scan.specs.Runs.{firstNot}
+use Rattle.scan.proofs.Runs.{on, stop, past}
+use Rattle.infer_type.specs.Part.{isLooked}
+use Rattle.infer_type.proofs.looked_end.Statement.{statement}
+use Rattle.infer_type.proofs.looked_end.Tie as tie
+
+abbrev Inv-loop : tie.InvT-loop
+Inv-loop text from i₀ i = firstNot isLooked text i ≡ firstNot isLooked text from
+
+abbrev μ-loop : tie.MeasureT-loop
+μ-loop text from i₀ i = length text - i
+
+loop-holds : tie.Need-loop-holds Inv-loop μ-loop
+loop-holds c = refl
+
+shared-slice-read-is-looked : tie.Need-shared-slice-read-is-looked Inv-loop μ-loop
+shared-slice-read-is-looked c = search needs
+
+is-looked-requires : tie.Need-is-looked-requires Inv-loop μ-loop
+is-looked-requires c κs = search needs
+
+add-i : tie.Need-add-i Inv-loop μ-loop
+add-i c = search needs
+
+loop-less : tie.Need-loop-less Inv-loop μ-loop
+loop-less c = search needs
+
+loop-again : tie.Need-loop-again Inv-loop μ-loop
+loop-again c =
+    on isLooked _ _ (search needs) (sym (c .before .is-looked .ensures) ∙ c .if1 .taken) ∙ c .before .before .before .before .loop .inv
+
+returns : tie.Need-returns Inv-loop μ-loop
+returns c =
+    sym (stop isLooked _ _ (search needs) (sym (c .before .is-looked .ensures) ∙ c .if1 .left)) ∙ c .before .before .before .before .loop .inv
+
+returns-2 : tie.Need-returns-2 Inv-loop μ-loop
+returns-2 c = sym (past isLooked _ _ (c .loop-test .left)) ∙ c .before .loop .inv
+
+pub looked-end-spec : {M : Type 1} → statement M
+looked-end-spec =
+    tie.close
+    (tie.spec
+    Inv-loop
+    μ-loop
+    loop-holds
+    shared-slice-read-is-looked
+    is-looked-requires
+    add-i
+    loop-less
+    loop-again
+    returns
+    returns-2)

@@ -1,0 +1,61 @@
+-- Worked examples of this crate's definitions, by computation.
+use mathlib.Core.Path.{_≡_, refl}
+use mathlib.Core.List.{List, [], _∷_, _++_}
+use Prim.Native.Nat.{ℕ}
+use Rattle.scan.specs.Text.{bytes}
+use Rattle.scan.specs.Runs.{run, firstNot}
+use Rattle.words.specs.Words.{startsWord}
+use Rattle.utf8.specs.Utf8.{table, fits, firstFit, width, walk, firstIll}
+use Rattle.names.specs.Names.{lookup, front}
+use Rattle.infer_type.specs.declared.Inferred.{Inferred}
+use Rattle.infer_type.specs.Part.{startAt, endAt, wideAt}
+use Rattle.infer_type.specs.Search.{hasWord, firstWord}
+use Rattle.infer_type.specs.Infer.{accepted, refused, dimensionIn, withParen, withoutParen, inferLooked, inferType}
+
+answers : List ℕ → Inferred → Type 0
+answers text answer = inferType text ≡ answer
+
+-- what the examples open
+all : ℕ
+unfolding answers run firstNot startsWord table fits firstFit width walk firstIll lookup front startAt endAt wideAt hasWord firstWord dimensionIn withParen withoutParen inferLooked inferType
+all = 0
+
+-- "`POINTZ EMPTY` is XY, though the reader says XYZ; `POINTEMPTY` is 20."
+edges : (answers (bytes "POINTZ EMPTY") (accepted 1 0)) × (answers (bytes "POINTEMPTY") (refused 20 0))
+unfolding all
+edges = (refl, refl)
+
+-- "Its comment promises no dimension for EMPTY; the code returns one": XYZ, and XYZM between the first space and EMPTY
+empties : (answers (bytes "POINT Z EMPTY") (accepted 1 1)) × (answers (bytes "multipoint zm empty") (accepted 4 3)) × (answers (bytes "POINT EMPTY Z") (accepted 1 0))
+unfolding all
+empties = (refl, refl, refl)
+
+-- a `(` with anything after it
+parens : (answers (bytes "POINT(") (accepted 1 0)) × (answers (bytes "  point zm (") (accepted 1 3)) × (answers (bytes "MULTIPOINT(1 2)") (accepted 4 0)) × (answers (bytes "LINESTRINGM(") (accepted 2 2)) × (answers (bytes "POLYGON M Z(") (accepted 3 1))
+unfolding all
+parens = (refl, refl, refl, refl, refl)
+
+-- where the reader says otherwise: `POINT EMPTY(` is XYM by EMPTY's M, `POINTLESS(` a POINT, LINEARRING no name
+unlike : (answers (bytes "POINT EMPTY(") (accepted 1 2)) × (answers (bytes "POINTLESS(") (accepted 1 0)) × (answers (bytes "LINEARRING(") (refused 19 0)) × (answers (bytes "POINT\tEMPTY") (refused 20 0))
+unfolding all
+unlike = (refl, refl, refl, refl)
+
+-- tab, LF, vertical tab (11), form feed (12), CR and space are trimmed, 8 and 14 are not
+trims : (answers (9 ∷ 10 ∷ 11 ∷ 12 ∷ 13 ∷ 32 ∷ bytes "POINT(") (accepted 1 0)) × (answers (12 ∷ bytes "X(") (refused 19 1)) × (answers (8 ∷ bytes "POINT(") (refused 19 0)) × (answers (14 ∷ bytes "POINT(") (refused 19 0))
+unfolding all
+trims = (refl, refl, refl, refl)
+
+-- 21 before 20 before 19; the place is the first byte after trimming, or the text's length
+orders : (answers [] (refused 21 0)) × (answers (bytes " \n") (refused 21 2)) × (answers (bytes " X") (refused 21 1)) × (answers (bytes "XEMPTY") (refused 20 0)) × (answers (bytes "X EMPTY") (refused 19 0)) × (answers (bytes "XEMPTY EMPTY") (refused 20 0))
+unfolding all
+orders = (refl, refl, refl, refl, refl, refl)
+
+-- `京` is E4 BA AC: 24 in the part looked at only, and cut short it is 2, wherever it stands
+wides : (answers (bytes "POINT EMPTY" ++ 0xE4 ∷ 0xBA ∷ 0xAC ∷ []) (refused 24 11)) × (answers (bytes "POINT(" ++ 0xE4 ∷ 0xBA ∷ 0xAC ∷ []) (accepted 1 0)) × (answers (bytes " x" ++ 0xE4 ∷ 0xBA ∷ 0xAC ∷ bytes "(") (refused 24 2)) × (answers (bytes "POINT(" ++ 0xE4 ∷ 0xBA ∷ []) (refused 2 6))
+unfolding all
+wides = (refl, refl, refl, refl)
+
+-- a no-break space (C2 A0) isn't trimmed
+noBreak : answers (0xC2 ∷ 0xA0 ∷ bytes "POINT(") (refused 24 0)
+unfolding all
+noBreak = refl

@@ -1,0 +1,6 @@
+pub mod Refusals
+pub mod Part
+pub mod Search
+pub mod Infer
+pub mod Answers
+pub mod Examples

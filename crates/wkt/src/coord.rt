@@ -1,0 +1,100 @@
+// Coordinates: `types/coord.rs` of the Rust.
+use crate::Answer;
+use crate::NO_M;
+use crate::NO_NUMBER_ROW;
+use crate::NO_X;
+use crate::NO_Y;
+use crate::NO_Z;
+use crate::State;
+use crate::seen;
+use crate::seen::NUMBER;
+use names::DIM_XYM;
+use names::DIM_XYZ;
+use names::DIM_XYZM;
+use tokenizer::Refusal;
+ghost use mathlib.Core.Path.{_≡_};
+ghost use Rattle.store.specs.Rows.{numberRoom};
+ghost use Rattle.grammar.specs.Grammar.{thenNumber, ifAsked, hasZ, hasM};
+ghost use Rattle.wkt.specs.Means.{Room, FineAny, MetNumber, MetOn, MetCoord};
+
+fn has_z(dimension: u32) -> bool
+    ensures { λ r. ⌜ r ≡ hasZ dimension ⌝ }
+{
+    (dimension == DIM_XYZ) | (dimension == DIM_XYZM)
+}
+
+fn has_m(dimension: u32) -> bool
+    ensures { λ r. ⌜ r ≡ hasM dimension ⌝ }
+{
+    (dimension == DIM_XYM) | (dimension == DIM_XYZM)
+}
+
+// A number and its row, or the refusal `missing`.
+fn number(text: &[u8], numbers: &mut [u32], missing: u32, s: State) -> Answer
+    requires { ⌜ Room (now text) (s .nodes) (numberRoom (now numbers)) s ⌝ }
+    ensures { λ r. ⌜ MetNumber (now (text .entry)) missing s (now (numbers .entry)) r (now (numbers .exit)) ⌝ }
+{
+    let cursor = s.cursor;
+    let nodes = s.nodes;
+    let used = s.numbers;
+    let token = seen::take(text, cursor);
+    let next = token.next;
+    if token.sort == NUMBER {
+        if used < store::number_room(numbers) {
+            store::put_number(numbers, used, token.start as u32, token.len as u32);
+            Answer::Done(State {
+                cursor: next,
+                nodes,
+                numbers: used + 1,
+            })
+        } else {
+            Answer::Stopped(
+                Refusal {
+                    number: NO_NUMBER_ROW,
+                    place: token.place,
+                },
+                next,
+            )
+        }
+    } else {
+        Answer::Refused(
+            seen::refusal_at(text, missing, token.sort, token.place),
+            next,
+        )
+    }
+}
+
+// One number more, if what came before it was read.
+fn then_number(text: &[u8], numbers: &mut [u32], missing: u32, prior: Answer) -> Answer
+    requires { ⌜ FineAny (now text) (numberRoom (now numbers)) prior ⌝ }
+    ensures { λ r. ⌜ MetOn (now (text .entry)) (λ M. thenNumber M missing) prior (now (numbers .entry)) r (now (numbers .exit)) ⌝ }
+{
+    match prior {
+        Answer::Done(s) => number(text, numbers, missing, s),
+        Answer::Refused(r, c) => Answer::Refused(r, c),
+        Answer::Stopped(r, c) => Answer::Stopped(r, c),
+    }
+}
+
+// One number more, if the dimension asks for it.
+fn if_asked(text: &[u8], numbers: &mut [u32], asked: bool, missing: u32, prior: Answer) -> Answer
+    requires { ⌜ FineAny (now text) (numberRoom (now numbers)) prior ⌝ }
+    ensures { λ r. ⌜ MetOn (now (text .entry)) (λ M. ifAsked M asked missing) prior (now (numbers .entry)) r (now (numbers .exit)) ⌝ }
+{
+    if asked {
+        then_number(text, numbers, missing, prior)
+    } else {
+        prior
+    }
+}
+
+// X, Y, then Z and M as the dimension asks.
+pub fn coord(text: &[u8], numbers: &mut [u32], dimension: u32, s: State) -> Answer
+    requires { ⌜ Room (now text) (s .nodes) (numberRoom (now numbers)) s ⌝ }
+    ensures { λ r. ⌜ MetCoord (now (text .entry)) dimension s (now (numbers .entry)) r (now (numbers .exit)) ⌝ }
+{
+    let x = number(text, numbers, NO_X, s);
+    let y = then_number(text, numbers, NO_Y, x);
+    let z = if_asked(text, numbers, has_z(dimension), NO_Z, y);
+    if_asked(text, numbers, has_m(dimension), NO_M, z)
+}

@@ -1,0 +1,93 @@
+// Multipolygons: `types/multipolygon.rs` of the Rust.
+use crate::After;
+use crate::Answer;
+use crate::NO_NODE_ROW;
+use crate::State;
+use crate::after_part;
+use crate::closing;
+use crate::polygon;
+use names::KIND_MULTIPOLYGON;
+use tokenizer::Refusal;
+ghost use Prim.Native.Nat.{_<_};
+ghost use Rattle.names.specs.Kinds.{kindMultiPolygon};
+ghost use Rattle.wkt.specs.Means.{Fits, Reads, listOf, polygonOf, openedOf};
+
+// Polygons by commas, of the multipolygon in `row`.
+fn body(
+    text: &[u8],
+    nodes: &mut [u32],
+    numbers: &mut [u32],
+    row: usize,
+    dimension: u32,
+    s: State,
+) -> Answer
+    requires { ⌜ (row < s .nodes) × Fits (now text) (now nodes) (now numbers) s ⌝ }
+    ensures { λ r. ⌜ Reads (now (text .entry)) (listOf row (polygonOf dimension)) s (now (nodes .entry)) (now (numbers .entry)) r (now (nodes .exit)) (now (numbers .exit)) ⌝ }
+{
+    let mut at = s;
+    let mut parts: u32 = 0;
+    loop {
+        let got = polygon::with_parens(text, nodes, numbers, dimension, at);
+        match got {
+            Answer::Done(q) => {
+                parts += 1;
+                match after_part(text, q) {
+                    After::Comma(next) => {
+                        at = next;
+                    }
+                    After::Last(end) => {
+                        store::put_parts(nodes, row, parts);
+                        return Answer::Done(end);
+                    }
+                }
+            }
+            Answer::Refused(r, c) => {
+                return Answer::Refused(r, c);
+            }
+            Answer::Stopped(r, c) => {
+                return Answer::Stopped(r, c);
+            }
+        }
+    }
+}
+
+// A multipolygon whose `(` was taken at `place`.
+pub fn in_parens(
+    text: &[u8],
+    nodes: &mut [u32],
+    numbers: &mut [u32],
+    dimension: u32,
+    place: usize,
+    s: State,
+) -> Answer
+    requires { ⌜ Fits (now text) (now nodes) (now numbers) s ⌝ }
+    ensures { λ r. ⌜ Reads (now (text .entry)) (openedOf kindMultiPolygon dimension place (polygonOf dimension)) s (now (nodes .entry)) (now (numbers .entry)) r (now (nodes .exit)) (now (numbers .exit)) ⌝ }
+{
+    let cursor = s.cursor;
+    let row = s.nodes;
+    let used = s.numbers;
+    if row < store::node_room(nodes) {
+        store::put_node(nodes, row, KIND_MULTIPOLYGON, dimension, 0);
+        let got = body(
+            text,
+            nodes,
+            numbers,
+            row,
+            dimension,
+            State {
+                cursor,
+                nodes: row + 1,
+                numbers: used,
+            },
+        );
+        closing(text, got)
+    } else {
+        Answer::Stopped(
+            Refusal {
+                number: NO_NODE_ROW,
+                place,
+            },
+            cursor,
+        )
+    }
+}
