@@ -1,13 +1,10 @@
 // The letter `i`: what infer_type answers for a text. No fields.
-use crate::MAX_TEXT;
-use crate::put_bad_record;
+use crate::records::TEXT_AFTER_NONE;
 use infer_type::Inferred;
+use printing::least;
 use printing::put;
 use printing::put_number;
 use printing::put_spaced;
-
-// Where the text stands in a record.
-const TEXT: usize = 1;
 
 fn put_inferred(out: &mut [u8], at: usize, inferred: Inferred) -> usize {
     let number = put_number(out, at, inferred.number as usize);
@@ -18,13 +15,8 @@ fn put_inferred(out: &mut [u8], at: usize, inferred: Inferred) -> usize {
 
 // The line of a record of this letter.
 pub(crate) fn answer(record: &[u8], out: &mut [u8], at: usize) -> usize {
-    if record.len() < TEXT {
-        return put_bad_record(out, at);
-    }
-    if MAX_TEXT < record.len() - TEXT {
-        return put_bad_record(out, at);
-    }
-    let inferred = infer_type::infer_type(&record[TEXT..]);
+    let text = least(TEXT_AFTER_NONE, record.len());
+    let inferred = infer_type::infer_type(&record[text..]);
     let end = put_inferred(out, at, inferred);
     put(out, end, b"\n")
 }

@@ -1,6 +1,7 @@
 // Answers the records on standard input, a line each, by calls of the proved functions. A record is a u32
 // (little-endian, as every number here) with the count of the bytes that follow it, and those bytes: a letter,
-// the letter's fields as u32 each, and what is left. A letter has an arm in `answer`, and a file:
+// the letter's fields as u32 each, and what is left. A letter has an arm in `answer`, its limits in records.rt,
+// and a file:
 //
 //   t, p  tokens.rt
 //   r     reading.rt
@@ -12,6 +13,7 @@ mod inferred;
 mod input;
 mod numbers;
 mod reading;
+mod records;
 mod tokens;
 
 use input::State;
@@ -21,11 +23,8 @@ use numbers::u32_at;
 use printing::flush;
 use printing::least;
 use printing::put;
-use reading::MAX_SLICE;
+use records::MAX_SLICE;
 use tokens::Demand;
-
-// A record with a longer text is too large.
-const MAX_TEXT: usize = 131_072;
 
 // Holds the largest record that a letter may have: two slices of 98,304 u32, a text, and some fields. A larger
 // one is passed over.
@@ -47,10 +46,7 @@ fn answer(
     out: &mut [u8],
     at: usize,
 ) -> usize {
-    if record.len() == 0 {
-        return put_bad_record(out, at);
-    }
-    match record[0] {
+    match records::letter(record) {
         b't' => tokens::answer(record, Demand::Take, out, at),
         b'p' => tokens::answer(record, Demand::LookAndTake, out, at),
         b'r' => reading::answer(record, nodes, numbers, out, at),

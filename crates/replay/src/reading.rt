@@ -1,7 +1,9 @@
 // The letter `r`: the reader, lent two slices that are full of ones. Fields: node slice length, number slice length.
-use crate::MAX_TEXT;
 use crate::numbers::u32_at;
-use crate::put_bad_record;
+use crate::records::FIRST_FIELD;
+use crate::records::MAX_SLICE;
+use crate::records::SECOND_FIELD;
+use crate::records::TEXT_AFTER_TWO;
 use printing::least;
 use printing::put;
 use printing::put_number;
@@ -11,15 +13,10 @@ use store::NUMBER_WIDTH;
 use wkt::ReadAnswer;
 ghost use Prim.Native.Nat.{_≤_};
 
-// A record that asks for a longer slice is too large.
-pub(crate) const MAX_SLICE: usize = 98_304;
+// Where the fields stand in a record.
+const NODES: usize = FIRST_FIELD;
 
-// Where the fields and the text stand in a record.
-const NODES: usize = 1;
-
-const NUMBERS: usize = 5;
-
-const TEXT: usize = 9;
+const NUMBERS: usize = SECOND_FIELD;
 
 fn fill(slice: &mut [u32]) {
     let mut i = 0;
@@ -130,22 +127,11 @@ pub(crate) fn answer(
     out: &mut [u8],
     at: usize,
 ) -> usize {
-    if record.len() < TEXT {
-        return put_bad_record(out, at);
-    }
-    if MAX_TEXT < record.len() - TEXT {
-        return put_bad_record(out, at);
-    }
-    let node_places = u32_at(record, NODES);
-    let number_places = u32_at(record, NUMBERS);
-    if nodes.len() < node_places {
-        return put_bad_record(out, at);
-    }
-    if numbers.len() < number_places {
-        return put_bad_record(out, at);
-    }
+    let text = least(TEXT_AFTER_TWO, record.len());
+    let node_places = least(u32_at(record, NODES), nodes.len());
+    let number_places = least(u32_at(record, NUMBERS), numbers.len());
     read_and_put(
-        &record[TEXT..],
+        &record[text..],
         &mut nodes[0..node_places],
         &mut numbers[0..number_places],
         out,

@@ -1,19 +1,19 @@
 // The letters `t` and `p`: a cursor is put at a place of a text, and so many tokens are taken. Fields: place, count.
-use crate::MAX_TEXT;
 use crate::found::put_found;
 use crate::found::same_found;
 use crate::numbers::u32_at;
-use crate::put_bad_record;
+use crate::records::FIRST_FIELD;
+use crate::records::SECOND_FIELD;
+use crate::records::TEXT_AFTER_TWO;
+use printing::least;
 use printing::put;
 use tokenizer::Cursor;
 use tokenizer::Found;
 
-// Where the fields and the text stand in a record.
-const PLACE: usize = 1;
+// Where the fields stand in a record.
+const PLACE: usize = FIRST_FIELD;
 
-const COUNT: usize = 5;
-
-const TEXT: usize = 9;
+const COUNT: usize = SECOND_FIELD;
 
 pub(crate) enum Demand {
     // Letter `t`.
@@ -103,15 +103,10 @@ fn put_tokens(
 
 // The line of a record of one of these letters.
 pub(crate) fn answer(record: &[u8], demand: Demand, out: &mut [u8], at: usize) -> usize {
-    if record.len() < TEXT {
-        return put_bad_record(out, at);
-    }
-    if MAX_TEXT < record.len() - TEXT {
-        return put_bad_record(out, at);
-    }
+    let text = least(TEXT_AFTER_TWO, record.len());
     let cursor = Cursor::new(u32_at(record, PLACE));
     let end = put_tokens(
-        &record[TEXT..],
+        &record[text..],
         cursor,
         u32_at(record, COUNT),
         demand,

@@ -1,0 +1,3 @@
+pub mod Sim
+pub mod Flat
+pub mod Whole

@@ -1,0 +1,68 @@
+-- An accepted reading, and the rows that it leaves in the slices: a well-formed store.
+-- Assumes nothing.
+use mathlib.Core.Path.{_≡_, refl, ap, sym, _∙_}
+use mathlib.Core.Bool.{true, false≢true}
+use mathlib.Core.List.{List}
+use Prim.Native.Nat.{ℕ}
+use lib.ListN.{length}
+use Rattle.store.specs.Rows.{Row, Span, nodeRoom, numberRoom, flatRows, flatSpans}
+use Rattle.grammar.specs.Lists.{All}
+use Rattle.grammar.specs.Answers.{SpanIn}
+use Rattle.grammar.specs.Grammar.{out, Got, ok, refused, halt}
+use Rattle.grammar.specs.Whole.{reading}
+use Rattle.grammar.proofs.WellRead.{reading-well-formed}
+use Rattle.grammar.proofs.Fuel.{reading-refusals, reading-halts, reading-kept}
+use Rattle.wkt.specs.declared.ReadAnswer.{ReadAnswer}
+use Rattle.wkt.specs.Whole.{Leaves}
+use Rattle.shape.specs.Store.{wellFormed}
+use Rattle.bridge.specs.Rows.{allRows, allSpans, IsTree}
+use Rattle.bridge.proofs.Whole.{well-formed-is}
+use Rattle.demands.specs.Calls.{Read, usedNodes, usedNumbers}
+use Rattle.demands.proofs.Flat.{flat-rows, flat-spans, flat-whole, used-rows, used-spans}
+
+-- ---- what a reading was, by its answer
+pub record Accepts (N M : ℕ) (text : List ℕ) : Type 0 where
+  pub rows : List Row
+  pub spans : List Span
+  pub is : reading N M text ≡ ok (out rows spans)
+
+pub accepts : (text ns ms : List ℕ) (a : ReadAnswer) (ns′ ms′ : List ℕ) → Read text ns ms a ns′ ms′ → a .number ≡ 0 → Accepts (nodeRoom ns) (numberRoom ms) text
+accepts text ns ms a ns′ ms′ r z = go (reading (nodeRoom ns) (numberRoom ms) text) refl
+  where
+    go : (g : Got) → reading (nodeRoom ns) (numberRoom ms) text ≡ g → Accepts (nodeRoom ns) (numberRoom ms) text
+    go (ok (out rs ss)) e = record { rows = rs; spans = ss; is = e }
+    go (refused f) e =
+        let l : Leaves (refused f) ns ms a ns′ ms′ = rw e at r in
+        let n : f .number ≡ 0 = sym (ap (λ (x : ReadAnswer). x .number) (l .answer)) ∙ z in
+        absurd (false≢true (rw n at (reading-refusals (nodeRoom ns) (numberRoom ms) text f e .number)))
+    go (halt f) e =
+        let l : Leaves (halt f) ns ms a ns′ ms′ = rw e at r in
+        let n : f .number ≡ 0 = sym (ap (λ (x : ReadAnswer). x .number) (l .answer)) ∙ z in
+        absurd (false≢true (rw n at (reading-halts (nodeRoom ns) (numberRoom ms) text f e .number)))
+
+-- ---- what it leaves
+-- the used rows of an accepted reading are its rows
+module _ (text ns ms : List ℕ) (a : ReadAnswer) (ns′ ms′ : List ℕ) (rs : List Row) (ss : List Span) (r : Read text ns ms a ns′ ms′) (is : reading (nodeRoom ns) (numberRoom ms) text ≡ ok (out rs ss)) where
+  pub left : Leaves (ok (out rs ss)) ns ms a ns′ ms′
+  left = rw is at r
+
+  pub its-nodes : usedNodes a ns′ ≡ flatRows rs
+  its-nodes = rw (left .answer, left .nodes) (used-rows rs (length ns))
+
+  its-numbers : usedNumbers a ms′ ≡ flatSpans ss
+  its-numbers = rw (left .answer, left .numbers) (used-spans ss (length ms))
+
+  kept : All (SpanIn text) ss
+  kept = reading-kept (nodeRoom ns) (numberRoom ms) text rs ss is .spans
+
+  pub its-rows : allRows (usedNodes a ns′) ≡ rs
+  its-rows = ap allRows its-nodes ∙ flat-rows rs
+
+  pub its-spans : allSpans text (usedNumbers a ms′) ≡ ss
+  its-spans = ap (allSpans text) its-numbers ∙ flat-spans text ss kept
+
+  its-tree : IsTree text (usedNodes a ns′) (usedNumbers a ms′)
+  its-tree = record { lengths = rw (its-nodes, its-numbers) (flat-whole rs ss); well = rw (its-rows, its-spans) (reading-well-formed (nodeRoom ns) (numberRoom ms) text rs ss is) }
+
+  pub is-well : wellFormed text (usedNodes a ns′) (usedNumbers a ms′) ≡ true
+  is-well = well-formed-is text (usedNodes a ns′) (usedNumbers a ms′) .1 its-tree

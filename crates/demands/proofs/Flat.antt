@@ -1,0 +1,105 @@
+-- Rows as numbers and back: a slice of whole rows is its rows, and rows are those of their numbers.
+-- Assumes nothing.
+use mathlib.Core.Path.{_≡_, refl, sym, _∙_}
+use mathlib.Core.Bool.{true}
+use mathlib.Core.List.{List, [], _∷_, flatMap}
+use Prim.Native.Nat.{ℕ, zero, suc, _*_, _%_}
+use native.Mathlib.Omega.{arith}
+use lib.Dec.{eqb}
+use lib.ListN.{length, take, drop}
+use lib.Seq.{take-all, take-append-seam}
+use borrow.Author.Tests.{eqb-true, eq-eqb}
+use Rattle.store.specs.Rows.{Row, row, Span, span, nodeWidth, numberWidth, nodeRoom, numberRoom, spanAt, firsts, spansIn, flatRows, flatSpans, padded}
+use Rattle.store.proofs.Rows.{rows-flat, spans-flat}
+use Rattle.grammar.specs.Lists.{All}
+use Rattle.grammar.specs.Answers.{SpanIn}
+use Rattle.shape.specs.Store.{areWhole}
+use Rattle.bridge.specs.Rows.{allRows, allSpans}
+use Rattle.bridge.proofs.Whole.{and-both, all-snoc}
+
+rows-wide : (rs : List Row) → length (flatRows rs) ≡ length rs * nodeWidth
+unfolding flatRows flatMap
+rows-wide [] = refl
+rows-wide (row k d n ∷ rs) = let z : length (flatRows rs) ≡ length rs * nodeWidth = rows-wide rs in omega (arith, z)
+
+spans-wide : (ss : List Span) → length (flatSpans ss) ≡ length ss * numberWidth
+unfolding flatSpans flatMap
+spans-wide [] = refl
+spans-wide (span start len x ∷ ss) = let z : length (flatSpans ss) ≡ length ss * numberWidth = spans-wide ss in omega (arith, z)
+
+-- what is left of padded numbers
+front-of : (l : List ℕ) (n m : ℕ) → length l ≡ n → take n (padded l m) ≡ l
+front-of l n m e = rw (← e) (take-append-seam l _)
+
+-- ---- slices of whole rows
+pub nodes-flat : (nodes : List ℕ) → length nodes % nodeWidth ≡ 0 → flatRows (allRows nodes) ≡ nodes
+nodes-flat nodes e = rows-flat nodes (nodeRoom nodes) (omega arith) ∙ take-all (nodeRoom nodes * nodeWidth) nodes (omega arith)
+
+pub numbers-flat : (text numbers : List ℕ) → length numbers % numberWidth ≡ 0 → flatSpans (allSpans text numbers) ≡ numbers
+numbers-flat text numbers e = spans-flat text numbers (numberRoom numbers) (omega arith) ∙ take-all (numberRoom numbers * numberWidth) numbers (omega arith)
+
+-- ---- rows of their numbers
+three : (a b c a′ b′ c′ : ℕ) (l l′ : List ℕ) → _≡_ {A = List ℕ} (a ∷ b ∷ c ∷ l) (a′ ∷ b′ ∷ c′ ∷ l′) → (row a b c ≡ row a′ b′ c′) × (l ≡ l′)
+three a b c a′ b′ c′ l l′ e = (cc, cc)
+
+rows-one : (a b : List Row) → flatRows a ≡ flatRows b → a ≡ b
+unfolding flatRows flatMap
+rows-one [] [] e = refl
+rows-one [] (row k d n ∷ b) e = let z : _≡_ {A = ℕ} 0 1 = cc in absurd (omega arith)
+rows-one (row k d n ∷ a) [] e = let z : _≡_ {A = ℕ} 0 1 = cc in absurd (omega arith)
+rows-one (row k d n ∷ a) (row k′ d′ n′ ∷ b) e =
+    let u = three k d n k′ d′ n′ (flatRows a) (flatRows b) e in
+    let v : a ≡ b = rows-one a b (u .1) in
+    rw (u .0, v)
+
+pub flat-rows : (rs : List Row) → allRows (flatRows rs) ≡ rs
+flat-rows rs = rows-one (allRows (flatRows rs)) rs (nodes-flat (flatRows rs) (omega (arith, rows-wide rs)))
+
+-- a number row that holds the bytes that it tells of
+Own : List ℕ → Span → Type 0
+Own text (span start len x) = take len (drop start text) ≡ x
+
+own-in : (text : List ℕ) (ss : List Span) → All (SpanIn text) ss → All (Own text) ss
+unfolding All Own
+own-in text [] a = tt
+own-in text (span start len x ∷ ss) a = (a .0 .bytes, own-in text ss (a .1))
+
+own-all : (text ms : List ℕ) (n : ℕ) → All (Own text) (spansIn text ms n)
+unfolding All Own spansIn firsts
+own-all text ms zero = tt
+own-all text ms (suc n) = all-snoc (Own text) (firsts (spanAt text ms) n) (spanAt text ms n) (own-all text ms n) refl
+
+two : (a b a′ b′ : ℕ) (l l′ : List ℕ) → _≡_ {A = List ℕ} (a ∷ b ∷ l) (a′ ∷ b′ ∷ l′) → (a ≡ a′) × (b ≡ b′) × (l ≡ l′)
+two a b a′ b′ l l′ e = (cc, cc, cc)
+
+spans-one : (text : List ℕ) (a b : List Span) → All (Own text) a → All (Own text) b → flatSpans a ≡ flatSpans b → a ≡ b
+unfolding flatSpans flatMap All Own
+spans-one text [] [] u v e = refl
+spans-one text [] (span s l x ∷ b) u v e = let z : _≡_ {A = ℕ} 0 1 = cc in absurd (omega arith)
+spans-one text (span s l x ∷ a) [] u v e = let z : _≡_ {A = ℕ} 0 1 = cc in absurd (omega arith)
+spans-one text (span s l x ∷ a) (span s′ l′ x′ ∷ b) u v e =
+    let w = two s l s′ l′ (flatSpans a) (flatSpans b) e in
+    let q : a ≡ b = spans-one text a b (u .1) (v .1) (w .2) in
+    let y : x ≡ x′ = sym (u .0) ∙ rw (w .0, w .1) (v .0) in
+    rw (w .0, w .1, y, q)
+
+pub flat-spans : (text : List ℕ) (ss : List Span) → All (SpanIn text) ss → allSpans text (flatSpans ss) ≡ ss
+flat-spans text ss a = spans-one text (allSpans text (flatSpans ss)) ss (own-all text (flatSpans ss) (numberRoom (flatSpans ss))) (own-in text ss a) (numbers-flat text (flatSpans ss) (omega (arith, spans-wide ss)))
+
+-- ---- lengths
+pub flat-whole : (rs : List Row) (ss : List Span) → areWhole (flatRows rs) (flatSpans ss) ≡ true
+unfolding areWhole
+flat-whole rs ss = rw (eq-eqb (length (flatRows rs) % nodeWidth) 0 (omega (arith, rows-wide rs)), eq-eqb (length (flatSpans ss) % numberWidth) 0 (omega (arith, spans-wide ss)))
+
+pub whole-lengths : (nodes numbers : List ℕ) → areWhole nodes numbers ≡ true → (length nodes % nodeWidth ≡ 0) × (length numbers % numberWidth ≡ 0)
+unfolding areWhole
+whole-lengths nodes numbers e =
+    let u = and-both (eqb (length nodes % nodeWidth) 0) (eqb (length numbers % numberWidth) 0) e in
+    (eqb-true (length nodes % nodeWidth) 0 (u .0), eqb-true (length numbers % numberWidth) 0 (u .1))
+
+-- ---- the used rows of slices that are left with zeros after them
+pub used-rows : (rs : List Row) (m : ℕ) → take (length rs * nodeWidth) (padded (flatRows rs) m) ≡ flatRows rs
+used-rows rs m = front-of (flatRows rs) (length rs * nodeWidth) m (rows-wide rs)
+
+pub used-spans : (ss : List Span) (m : ℕ) → take (length ss * numberWidth) (padded (flatSpans ss) m) ≡ flatSpans ss
+used-spans ss m = front-of (flatSpans ss) (length ss * numberWidth) m (spans-wide ss)

@@ -1,0 +1,5 @@
+pub mod Flat
+pub mod Calls
+pub mod Demand1
+pub mod Demand3
+pub mod Later

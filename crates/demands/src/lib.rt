@@ -1,0 +1,1 @@
+// What is promised of the entries, as theorems about the definitions that their contracts cite; no code.

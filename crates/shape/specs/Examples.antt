@@ -1,0 +1,104 @@
+-- Worked examples of this crate's definitions, by computation: a well-formed store of each sort, and each clause of the definition broken by itself.
+use mathlib.Core.Path.{_≡_, refl}
+use mathlib.Core.Bool.{Bool, true, false}
+use mathlib.Core.Option.{some}
+use mathlib.Core.List.{List, [], _∷_, _++_}
+use Prim.Native.Nat.{ℕ, zero, suc}
+use Rattle.scan.specs.Text.{bytes}
+use Rattle.scan.specs.Front.{begins, afterOne, afterAll, isNil}
+use Rattle.words.specs.Words.{sameWord}
+use Rattle.names.specs.Lists.{every}
+use Rattle.number.specs.Lexeme.{isNamed, isDigits, isExponent, isDecimal, isUnsigned, isLexeme}
+use Rattle.store.specs.Rows.{row, cell, firsts, rowsIn, spansIn}
+use Rattle.shape.specs.Nodes.{frame, above, visitOf, width, numbersOf, childKind, isAllowed, after, ends, isOpen, ending, atLast, visitsBy, visits, treeOf}
+use Rattle.shape.specs.Numbers.{areNumbers}
+use Rattle.shape.specs.Store.{areWhole, visitsOf, wellFormed}
+
+-- the numbers `1`, `2` and `-3`, and `x`, which is none
+text : List ℕ
+text = bytes "1 2 -3 x"
+
+-- spans of `1` and `2`
+coordinate : List ℕ
+coordinate = 0 ∷ 1 ∷ 2 ∷ 1 ∷ []
+
+isGood : List ℕ → List ℕ → Bool
+isGood nodes numbers = wellFormed text nodes numbers
+
+-- n collections, each in the one before, the last of one child
+nest : ℕ → List ℕ
+nest zero = []
+nest (suc n) = 7 ∷ 0 ∷ 1 ∷ nest n
+
+point : List ℕ
+point = 1 ∷ 0 ∷ 1 ∷ []
+
+emptyPoint : List ℕ
+emptyPoint = 1 ∷ 0 ∷ 0 ∷ []
+
+all : ℕ
+unfolding text coordinate isGood nest point emptyPoint begins afterOne afterAll isNil sameWord isNamed isDigits isExponent isDecimal isUnsigned isLexeme every cell firsts rowsIn spansIn width numbersOf childKind isAllowed after ends isOpen atLast visitsBy visits treeOf areNumbers areWhole visitsOf wellFormed
+all = 0
+
+-- `POINT(1 2)`, `POINT EMPTY`, `MULTIPOINT((1 2))`, `MULTIPOLYGON(((1 2)))`
+single : (isGood point coordinate ≡ true) × (isGood emptyPoint [] ≡ true) × (isGood (4 ∷ 0 ∷ 1 ∷ point) coordinate ≡ true) × (isGood (6 ∷ 0 ∷ 1 ∷ 3 ∷ 0 ∷ 1 ∷ 2 ∷ 0 ∷ 1 ∷ []) coordinate ≡ true)
+unfolding all
+single = (refl, refl, refl, refl)
+
+-- `GEOMETRYCOLLECTION Z(POINT(1 2))`: a collection's children need not have its dimension
+mixed : isGood (7 ∷ 1 ∷ 1 ∷ point) coordinate ≡ true
+unfolding all
+mixed = refl
+
+-- the nodes of `GEOMETRYCOLLECTION(MULTIPOINT((1 2)),POINT EMPTY)` in their places: the point in row 2 ends the multipoint and a child of the collection
+-- follows, the point in row 3 ends the collection
+places :
+    visitsOf text (7 ∷ 0 ∷ 2 ∷ 4 ∷ 0 ∷ 1 ∷ point ++ emptyPoint) coordinate
+    ≡ some
+    (visitOf 0 0 above (row 7 0 2)
+    ∷ visitOf 1 0 (frame 0 7 0 1 1) (row 4 0 1)
+    ∷ ending (visitOf 2 0 (frame 1 4 0 1 0) (row 1 0 1)) 1 true
+    ∷ ending (visitOf 3 2 (frame 0 7 0 1 0) (row 1 0 0)) 1 false
+    ∷ [])
+unfolding all
+places = refl
+
+-- "exactly one preorder tree": no row, two trees, a child lacking, a child too many
+tree : (isGood [] [] ≡ false) × (isGood (emptyPoint ++ emptyPoint) [] ≡ false) × (isGood (7 ∷ 0 ∷ 1 ∷ []) [] ≡ false) × (isGood (7 ∷ 0 ∷ 1 ∷ emptyPoint ++ emptyPoint) [] ≡ false)
+unfolding all
+tree = (refl, refl, refl, refl)
+
+-- "kinds and dimensions as above": kind 0, kind 8, dimension 4
+known : (isGood (0 ∷ 0 ∷ 0 ∷ []) [] ≡ false) × (isGood (8 ∷ 0 ∷ 0 ∷ []) [] ≡ false) × (isGood (1 ∷ 4 ∷ 0 ∷ []) [] ≡ false)
+unfolding all
+known = (refl, refl, refl)
+
+-- "children of the kinds named": a point in a polygon, a line string in a multipoint; "of the parent's dimension": an XYZ ring in an XY polygon
+children : (isGood (3 ∷ 0 ∷ 1 ∷ emptyPoint) [] ≡ false) × (isGood (4 ∷ 0 ∷ 1 ∷ 2 ∷ 0 ∷ 1 ∷ []) coordinate ≡ false) × (isGood (3 ∷ 0 ∷ 1 ∷ 2 ∷ 1 ∷ 0 ∷ []) [] ≡ false)
+unfolding all
+children = (refl, refl, refl)
+
+-- "a point has at most 1 part, a multipoint's points exactly 1"
+parts : (isGood (1 ∷ 0 ∷ 2 ∷ []) (coordinate ++ coordinate) ≡ false) × (isGood (4 ∷ 0 ∷ 1 ∷ emptyPoint) [] ≡ false)
+unfolding all
+parts = (refl, refl)
+
+-- "at most 32 non-empty collections lie on a path": an empty one may lie in the 32nd
+deep : (isGood (nest 32 ++ 7 ∷ 0 ∷ 0 ∷ []) [] ≡ true) × (isGood (nest 33 ++ 7 ∷ 0 ∷ 0 ∷ []) [] ≡ false)
+unfolding all
+deep = (refl, refl)
+
+-- "the numbers are exactly as many as needed": one too few, one too many
+count : (isGood point (0 ∷ 1 ∷ []) ≡ false) × (isGood point (coordinate ++ 4 ∷ 2 ∷ []) ≡ false)
+unfolding all
+count = (refl, refl)
+
+-- "each lies in its text and is a lexeme": `-3`, `x`, nothing, and a span that ends one past the text
+texts : (isGood point (0 ∷ 1 ∷ 4 ∷ 2 ∷ []) ≡ true) × (isGood point (0 ∷ 1 ∷ 7 ∷ 1 ∷ []) ≡ false) × (isGood point (0 ∷ 1 ∷ 0 ∷ 0 ∷ []) ≡ false) × (wellFormed (bytes "1 2") point (0 ∷ 1 ∷ 2 ∷ 2 ∷ []) ≡ false)
+unfolding all
+texts = (refl, refl, refl, refl)
+
+-- "a slice length not divisible by 3 or 2 is ill formed"
+ragged : (isGood (point ++ 0 ∷ []) coordinate ≡ false) × (isGood point (coordinate ++ 0 ∷ []) ≡ false)
+unfolding all
+ragged = (refl, refl)

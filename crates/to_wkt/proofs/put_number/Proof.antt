@@ -1,0 +1,48 @@
+-- `to_wkt::put_number` meets its contract: the number's text, with the plus or without.
+-- Assumes nothing.
+use borrow.Author.Needs.{needs}
+use Rattle.pen.proofs.Puts.{emits, emits-then, emits-as}
+use Rattle.to_wkt.proofs.Canonical.{number-plus, number-bare}
+use Rattle.to_wkt.proofs.put_number.Statement.{statement}
+use Rattle.to_wkt.proofs.put_number.Tie as tie
+
+number-text-requires : tie.Need-number-text-requires
+number-text-requires c κs = search needs
+
+needs-plus-requires : tie.Need-needs-plus-requires
+needs-plus-requires c κs = search needs
+
+put-byte-requires : tie.Need-put-byte-requires
+put-byte-requires c κs = search needs
+
+put-requires : tie.Need-put-requires
+put-requires c κs = search needs
+
+same-length : tie.Need-same-length
+same-length c = search needs
+
+returns : tie.Need-returns
+returns c = emits-as (emits-then (emits (c .before .before .before .before .before .before .put-byte .ensures)) (emits (c .before .before .put .ensures))) (number-plus _ _ _ (c .before .before .before .before .before .before .before .before .before .before .number-text .ensures) (c .before .before .before .before .before .before .before .before .before .needs-plus .ensures) (c .before .before .before .before .before .before .before .before .if1 .taken))
+
+put-requires-2 : tie.Need-put-requires-2
+put-requires-2 c κs = search needs
+
+same-length-2 : tie.Need-same-length-2
+same-length-2 c = search needs
+
+returns-2 : tie.Need-returns-2
+returns-2 c = emits-as (emits (c .before .before .put2 .ensures)) (number-bare _ _ _ (c .before .before .before .before .before .before .number-text .ensures) (c .before .before .before .before .before .needs-plus .ensures) (c .before .before .before .before .if1 .left))
+
+pub put-number-spec : {M : Type 1} → statement M
+put-number-spec =
+    tie.close
+    (tie.spec
+    number-text-requires
+    needs-plus-requires
+    put-byte-requires
+    put-requires
+    same-length
+    returns
+    put-requires-2
+    same-length-2
+    returns-2)

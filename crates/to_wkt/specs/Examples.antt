@@ -1,0 +1,91 @@
+-- Worked examples of this crate's definitions, by computation.
+use mathlib.Core.Path.{_≡_, refl}
+use mathlib.Core.Option.{Option, none, some}
+use mathlib.Core.List.{List, [], _∷_, _++_}
+use Prim.Native.Nat.{ℕ}
+use Rattle.scan.specs.Text.{bytes}
+use Rattle.scan.specs.Front.{begins, afterOne, afterAll, isNil}
+use Rattle.words.specs.Words.{sameWord}
+use Rattle.names.specs.Lists.{every}
+use Rattle.number.specs.Lexeme.{isNamed, isDigits, isExponent, isDecimal, isUnsigned, isLexeme}
+use Rattle.store.specs.Rows.{cell, firsts, rowsIn, spansIn}
+use Rattle.shape.specs.Nodes.{width, numbersOf, childKind, isAllowed, after, ends, isOpen, atLast, visitsBy, visits, treeOf}
+use Rattle.shape.specs.Numbers.{textAt, areNumbers}
+use Rattle.shape.specs.Store.{areWhole, visitsOf}
+use Rattle.to_wkt.specs.Canonical.{needsPlus, spell, putNumber, putSpaced, putCoordinate, putListed, putCoordinates, stringOf, putName, putDimension, putHead, putBody, putClosings, putTail, putNode, nodesText, canonical}
+use Rattle.to_wkt.specs.Write.{accepted, refused, answerOf, roomAfter}
+
+-- `POINT(++4 +-4)` as it is read: its spans are 7,2 and 11,2
+read : List ℕ
+read = bytes "POINT(++4 +-4)"
+
+spans : List ℕ
+spans = 7 ∷ 2 ∷ 11 ∷ 2 ∷ []
+
+point : List ℕ
+point = 1 ∷ 0 ∷ 1 ∷ []
+
+-- `1` and `2` of this text
+digits : List ℕ
+digits = bytes "12"
+
+n12 : List ℕ
+n12 = 0 ∷ 1 ∷ 1 ∷ 1 ∷ []
+
+of : List ℕ → List ℕ → Option (List ℕ)
+of nodes numbers = canonical digits nodes numbers
+
+all : ℕ
+unfolding read spans point digits n12 of begins afterOne afterAll isNil sameWord isNamed isDigits isExponent isDecimal isUnsigned isLexeme every cell firsts rowsIn spansIn width numbersOf childKind isAllowed after ends isOpen atLast visitsBy visits treeOf textAt areNumbers areWhole visitsOf needsPlus spell putNumber putSpaced putCoordinate putListed putCoordinates stringOf putName putDimension putHead putBody putClosings putTail putNode nodesText canonical
+all = 0
+
+-- the kept number text `+4` gets its second plus back, `-4` none
+plused : canonical read point spans ≡ some (bytes "POINT(++4 -4)")
+unfolding all
+plused = refl
+
+-- a letter gets a plus, or it would be read as a word
+letters : canonical (bytes "inf NaN -inf") (1 ∷ 1 ∷ 1 ∷ []) (0 ∷ 3 ∷ 4 ∷ 3 ∷ 8 ∷ 4 ∷ []) ≡ some (bytes "POINT Z(+inf +NaN -inf)")
+unfolding all
+letters = refl
+
+-- each kind and each dimension
+point-m : of (1 ∷ 2 ∷ 1 ∷ []) (n12 ++ 0 ∷ 1 ∷ []) ≡ some (bytes "POINT M(1 2 1)")
+unfolding all
+point-m = refl
+
+line : of (2 ∷ 0 ∷ 2 ∷ []) (n12 ++ n12) ≡ some (bytes "LINESTRING(1 2,1 2)")
+unfolding all
+line = refl
+
+polygon : of (3 ∷ 0 ∷ 2 ∷ 2 ∷ 0 ∷ 1 ∷ 2 ∷ 0 ∷ 0 ∷ []) n12 ≡ some (bytes "POLYGON((1 2),EMPTY)")
+unfolding all
+polygon = refl
+
+multipoint : of (4 ∷ 3 ∷ 1 ∷ 1 ∷ 3 ∷ 1 ∷ []) (n12 ++ n12) ≡ some (bytes "MULTIPOINT ZM((1 2 1 2))")
+unfolding all
+multipoint = refl
+
+multiline : of (5 ∷ 0 ∷ 1 ∷ 2 ∷ 0 ∷ 1 ∷ []) n12 ≡ some (bytes "MULTILINESTRING((1 2))")
+unfolding all
+multiline = refl
+
+multipolygon : of (6 ∷ 0 ∷ 2 ∷ 3 ∷ 0 ∷ 1 ∷ 2 ∷ 0 ∷ 1 ∷ 3 ∷ 0 ∷ 0 ∷ []) n12 ≡ some (bytes "MULTIPOLYGON(((1 2)),EMPTY)")
+unfolding all
+multipolygon = refl
+
+collection : of (7 ∷ 1 ∷ 3 ∷ 7 ∷ 0 ∷ 1 ∷ 1 ∷ 0 ∷ 0 ∷ 1 ∷ 0 ∷ 1 ∷ 7 ∷ 3 ∷ 0 ∷ []) n12 ≡ some (bytes "GEOMETRYCOLLECTION Z(GEOMETRYCOLLECTION(POINT EMPTY),POINT(1 2),GEOMETRYCOLLECTION ZM EMPTY)")
+unfolding all
+collection = refl
+
+-- a number lacks
+ill : of point (0 ∷ 1 ∷ []) ≡ none
+unfolding all
+ill = refl
+
+-- the answer and the room: ill formed; a text of three bytes in a room of four, of three and of two
+answers : (answerOf none 2 ≡ refused 22) × (answerOf (some (bytes "abc")) 4 ≡ accepted 3) × (answerOf (some (bytes "abc")) 3 ≡ accepted 3) × (answerOf (some (bytes "abc")) 2 ≡ refused 23)
+answers = (refl, refl, refl, refl)
+
+rooms : (roomAfter none 2 ≡ 0 ∷ 0 ∷ []) × (roomAfter (some (bytes "abc")) 4 ≡ 97 ∷ 98 ∷ 99 ∷ 0 ∷ []) × (roomAfter (some (bytes "abc")) 3 ≡ bytes "abc") × (roomAfter (some (bytes "abc")) 2 ≡ 0 ∷ 0 ∷ [])
+rooms = (refl, refl, refl, refl)
