@@ -49,7 +49,7 @@ module _ (text ns ms : List ℕ) (a : ReadAnswer) (ns′ ms′ : List ℕ) (rs :
   pub its-nodes : usedNodes a ns′ ≡ flatRows rs
   its-nodes = rw (left .answer, left .nodes) (used-rows rs (length ns))
 
-  its-numbers : usedNumbers a ms′ ≡ flatSpans ss
+  pub its-numbers : usedNumbers a ms′ ≡ flatSpans ss
   its-numbers = rw (left .answer, left .numbers) (used-spans ss (length ms))
 
   kept : All (SpanIn text) ss

@@ -3,13 +3,14 @@
 use mathlib.Core.Path.{_≡_, refl, ap, sym, _∙_}
 use mathlib.Core.Bool.{Bool, true, false, false≢true, cond}
 use mathlib.Core.Option.{Option, none, some}
-use mathlib.Core.List.{List}
+use mathlib.Core.List.{List, [], _∷_}
 use Prim.Native.Nat.{ℕ}
 use native.Mathlib.Omega.{arith}
 use lib.Dec.{leb}
-use lib.ListN.{length, length-map}
+use lib.ListN.{length, getD, length-map}
 use borrow.Author.Tests.{le-leb}
-use Rattle.store.specs.Rows.{Row, nodeRoom, numberRoom, flatRows}
+use Rattle.scan.specs.Text.{bytes}
+use Rattle.store.specs.Rows.{Row, nodeRoom, numberRoom, flatRows, padded}
 use Rattle.store.proofs.Rows.{rows-length, spans-length}
 use Rattle.grammar.specs.Lists.{All}
 use Rattle.grammar.specs.Tree.{Lexeme}
@@ -27,9 +28,10 @@ use Rattle.to_wkt.specs.Write as write
 use Rattle.bridge.specs.Rows.{allRows, allSpans, allTexts}
 use Rattle.bridge.proofs.Whole.{canonical-tree, well-formed-is}
 use Rattle.demands.specs.Calls.{Read, usedNodes, usedNumbers}
-use Rattle.demands.specs.Demand3.{Short, OneWriting, Back, ReadsBack, ReadWell, NeverIll, ReadsAgain}
+use Rattle.demands.specs.Demand3.{Short, OneWriting, Back, ReadsBack, ReadWell, NeverIll, ReadsAgain, Writer, MeetsWrite, FixedText, WritesNothing, NoWriter}
 use Rattle.demands.proofs.Flat.{nodes-flat, whole-lengths}
 use Rattle.demands.proofs.Calls.{accepts, left, its-nodes, its-rows, its-spans, is-well}
+use Rattle.demands.proofs.Demand2.{point, point-text, empty-text}
 
 -- ---- a well-formed store has a canonical text
 module _ (text nodes numbers : List ℕ) where
@@ -133,3 +135,27 @@ pub reads-again : ReadsAgain
 reads-again text ns ms a ns′ ms′ r z h ps qs c ps′ qs′ hn hm r′ =
     let b = reads-back text (usedNodes a ns′) (usedNumbers a ms′) ps qs c ps′ qs′ (record { well = read-well text ns ms a ns′ ms′ r z; short = h }) hn hm r′ in
     (b .same-nodes, b .same-texts)
+
+-- ---- writers
+module _ (f : Writer) (m : MeetsWrite f) where
+  writes-point : (f point (1 ∷ 0 ∷ 1 ∷ []) (7 ∷ 2 ∷ 11 ∷ 2 ∷ []) 13 .answer ≡ accepted 13) × (f point (1 ∷ 0 ∷ 1 ∷ []) (7 ∷ 2 ∷ 11 ∷ 2 ∷ []) 13 .bytes ≡ bytes "POINT(++4 -4)")
+  writes-point = let w = m point (1 ∷ 0 ∷ 1 ∷ []) (7 ∷ 2 ∷ 11 ∷ 2 ∷ []) 13 in (w .answer ∙ ap (λ o. answerOf o 13) point-text, w .bytes ∙ ap (λ o. roomAfter o 13) point-text)
+
+  writes-empty : (f [] (1 ∷ 0 ∷ 0 ∷ []) [] 13 .answer ≡ accepted 11) × (f [] (1 ∷ 0 ∷ 0 ∷ []) [] 13 .bytes ≡ padded (bytes "POINT EMPTY") 13)
+  writes-empty = let w = m [] (1 ∷ 0 ∷ 0 ∷ []) [] 13 in (w .answer ∙ ap (λ o. answerOf o 13) empty-text, w .bytes ∙ ap (λ o. roomAfter o 13) empty-text)
+
+-- the byte after the name is `(` in one and a space in the other
+pub no-fixed-text : NoWriter FixedText
+no-fixed-text f m bad =
+    let a = writes-point f m in
+    let b = writes-empty f m in
+    let e = bad point (1 ∷ 0 ∷ 1 ∷ []) (7 ∷ 2 ∷ 11 ∷ 2 ∷ []) [] (1 ∷ 0 ∷ 0 ∷ []) [] 13 (ap (λ (x : WriteAnswer). x .number) (a .0)) (ap (λ (x : WriteAnswer). x .number) (b .0)) in
+    let z : _≡_ {A = ℕ} 40 32 = ap (λ (x : List ℕ). getD x 5 0) (sym (a .1) ∙ e ∙ b .1) in
+    omega (arith, z)
+
+pub no-empty-writer : NoWriter WritesNothing
+no-empty-writer f m bad =
+    let a = writes-point f m in
+    let e = bad point (1 ∷ 0 ∷ 1 ∷ []) (7 ∷ 2 ∷ 11 ∷ 2 ∷ []) 13 (ap (λ (x : WriteAnswer). x .number) (a .0)) in
+    let z : _≡_ {A = ℕ} 40 0 = ap (λ (x : List ℕ). getD x 5 0) (sym (a .1) ∙ e) in
+    omega (arith, z)

@@ -1,18 +1,32 @@
--- Demand 1, over the u32 slices as `read` and `write` see them: one outcome for all input, refused or not. The theorems that give these are in proofs/Demand1.
+-- Demand 1: one outcome for all input, refused or not, over the u32 slices as the entries see them. The theorems that give these are in proofs/Demand1.
 use mathlib.Core.Path.{_≡_}
-use mathlib.Core.Bool.{true, _||_}
+use mathlib.Core.Bool.{Bool, true, false, _||_, _&&_}
 use mathlib.Core.Logic.{_⊎_}
 use mathlib.Core.List.{List}
-use Prim.Native.Nat.{ℕ, _≤_}
+use Prim.Native.Nat.{ℕ, _≤_, _<_}
+use lib.Dec.{eqb, leb}
 use lib.ListN.{length}
-use Rattle.store.specs.Rows.{zeros}
+use Rattle.tokenizer.specs.declared.Cursor.{Cursor}
+use Rattle.tokenizer.specs.declared.Step.{Step}
+use Rattle.tokenizer.specs.Stream.{hd, tl, tokIn, stream}
+use Rattle.store.specs.Rows.{nodeRoom, numberRoom, zeros, padded}
+use Rattle.infer_type.specs.declared.Inferred.{Inferred}
+use Rattle.infer_type.specs.Refusals.{textTooLong, illFormedUtf8, unsupportedName, neitherParenNorEmpty, nonAscii}
+use Rattle.infer_type.specs.Infer as infer
+use Rattle.infer_type.specs.Answers.{Answer}
 use Rattle.grammar.specs.Answers.{isRefusal, isHalt}
 use Rattle.wkt.specs.declared.ReadAnswer.{ReadAnswer}
-use Rattle.shape.specs.Store.{illFormed}
+use Rattle.shape.specs.Store.{wellFormed, illFormed}
+use Rattle.strict.specs.declared.StrictAnswer.{StrictAnswer}
+use Rattle.strict.specs.Rules.{letterA, letterD, noLetter}
+use Rattle.strict.specs.Strict.{answer}
 use Rattle.to_wkt.specs.declared.WriteAnswer.{WriteAnswer}
-use Rattle.to_wkt.specs.Write.{noRoom, refused, Written}
-use Rattle.demands.specs.Calls.{Read}
+use Rattle.to_wkt.specs.Canonical.{textOf}
+use Rattle.to_wkt.specs.Write.{noRoom, accepted, refused, Written}
+use Rattle.demands.specs.Calls.{Read, usedNodes, usedNumbers, Checked, Inferring, Taken, LookedAt}
+use Rattle.demands.specs.Faults.{PlaceOf}
 
+-- ---- the reader and the writer
 -- "prove that two outcomes allowed by it coincide", lent slices included
 abbrev pub OneReading : Type 0
 OneReading =
@@ -33,6 +47,77 @@ pub record RefusedReading (text ns ms : List ℕ) (a : ReadAnswer) (ns′ ms′ 
 abbrev pub ReadRefuses : Type 0
 ReadRefuses = (text ns ms : List ℕ) (a : ReadAnswer) (ns′ ms′ : List ℕ) → Read text ns ms a ns′ ms′ → (a .number ≡ 0 → ⊥) → RefusedReading text ns ms a ns′ ms′
 
+-- and the place by number: `PlaceOf` is the table, with what token can be at fault for what number
+abbrev pub ReadPlaces : Type 0
+ReadPlaces = (text ns ms : List ℕ) (a : ReadAnswer) (ns′ ms′ : List ℕ) → Read text ns ms a ns′ ms′ → (a .number ≡ 0 → ⊥) → PlaceOf text (a .number) (a .place)
+
+-- an accepted reading: "Number and place are 0 when accepted", no more rows than there is room for, and zeros after those that are used
+pub record AcceptedReading (ns ms : List ℕ) (a : ReadAnswer) (ns′ ms′ : List ℕ) : Type 0 where
+  pub place : a .place ≡ 0
+  pub nodes : a .nodes ≤ nodeRoom ns
+  pub numbers : a .numbers ≤ numberRoom ms
+  pub nodes-padded : ns′ ≡ padded (usedNodes a ns′) (length ns)
+  pub numbers-padded : ms′ ≡ padded (usedNumbers a ms′) (length ms)
+
+abbrev pub ReadAccepts : Type 0
+ReadAccepts = (text ns ms : List ℕ) (a : ReadAnswer) (ns′ ms′ : List ℕ) → Read text ns ms a ns′ ms′ → a .number ≡ 0 → AcceptedReading ns ms a ns′ ms′
+
 -- a refusal of `write`: 22 or 23 at place 0, and "A refusing writer zeroes its output"
 abbrev pub WriteRefuses : Type 0
 WriteRefuses = (text nodes numbers : List ℕ) (room : ℕ) (r : WriteAnswer) (bytes : List ℕ) → Written text nodes numbers room r bytes → (r .number ≡ 0 → ⊥) → ((r ≡ refused illFormed) ⊎ (r ≡ refused noRoom)) × (bytes ≡ zeros room)
+
+-- when each is answered: "The writer tests 22, then 23." "an accepting one zeroes what lies after the text"
+pub data Writing (text nodes numbers : List ℕ) (room : ℕ) : WriteAnswer → List ℕ → Type 0 where
+  no-store : wellFormed text nodes numbers ≡ false → Writing text nodes numbers room (refused illFormed) (zeros room)
+  too-long : wellFormed text nodes numbers ≡ true → room < length (textOf text nodes numbers) → Writing text nodes numbers room (refused noRoom) (zeros room)
+  fits : wellFormed text nodes numbers ≡ true → length (textOf text nodes numbers) ≤ room → Writing text nodes numbers room (accepted (length (textOf text nodes numbers))) (padded (textOf text nodes numbers) room)
+
+abbrev pub WriteAnswers : Type 0
+WriteAnswers = (text nodes numbers : List ℕ) (room : ℕ) (r : WriteAnswer) (bytes : List ℕ) → Written text nodes numbers room r bytes → Writing text nodes numbers room r bytes
+
+-- ---- the strict check
+abbrev pub OneChecked : Type 0
+OneChecked = (text nodes numbers : List ℕ) (r r′ : StrictAnswer) → Checked text nodes numbers r → Checked text nodes numbers r′ → r ≡ r′
+
+-- "22 [..] store ill formed [..] (strict check: letter and row 0)"; "First failing rule [..] with number 0": a letter and a node row, or none and 0
+pub data Verdict (text nodes numbers : List ℕ) : StrictAnswer → Type 0 where
+  ill-store : wellFormed text nodes numbers ≡ false → Verdict text nodes numbers (answer illFormed noLetter 0)
+  passes : wellFormed text nodes numbers ≡ true → Verdict text nodes numbers (answer 0 noLetter 0)
+  fails : {letter i : ℕ} → wellFormed text nodes numbers ≡ true → letterA ≤ letter → letter ≤ letterD → i < nodeRoom nodes → Verdict text nodes numbers (answer 0 letter i)
+
+abbrev pub StrictAnswers : Type 0
+StrictAnswers = (text nodes numbers : List ℕ) (r : StrictAnswer) → Checked text nodes numbers r → Verdict text nodes numbers r
+
+-- ---- infer_type
+abbrev pub OneInferred : Type 0
+OneInferred = (text : List ℕ) (r r′ : Inferred) → Inferring text r → Inferring text r′ → r ≡ r′
+
+-- "Place", number by number: 1 at the limit, 2 where no whole character starts, 24 at the first such byte, 19 to 21 at the first byte after trimming
+abbrev pub TypeAnswers : Type 0
+TypeAnswers = (text : List ℕ) (r : Inferred) → Inferring text r → Answer text r
+
+abbrev pub isTypeRefusal : ℕ → Bool
+isTypeRefusal e = eqb e textTooLong || eqb e illFormedUtf8 || leb unsupportedName e && leb e neitherParenNorEmpty || eqb e nonAscii
+
+-- "all after the place 0 when refused"
+abbrev pub TypeRefuses : Type 0
+TypeRefuses = (text : List ℕ) (r : Inferred) → Inferring text r → (r .number ≡ 0 → ⊥) → (isTypeRefusal (r .number) ≡ true) × (r ≡ infer.refused (r .number) (r .place))
+
+-- ---- the token reader's steps, which refuse nothing
+abbrev pub OneTaken : Type 0
+OneTaken = (text : List ℕ) (c : Cursor) (r r′ : Step) → Taken text c r → Taken text c r′ → r ≡ r′
+
+abbrev pub OneLooked : Type 0
+OneLooked = (text : List ℕ) (c : Cursor) (r r′ : Step) → LookedAt text c r → LookedAt text c r′ → r ≡ r′
+
+-- `take` gives the first of the tokens still to come, and leaves the others
+abbrev pub TakesFirst : Type 0
+TakesFirst = (text : List ℕ) (c : Cursor) (r : Step) → Taken text c r → (tokIn text (r .found) ≡ hd (stream text c)) × (stream text (r .next) ≡ tl (stream text c))
+
+-- `look` gives it too, and changes nothing
+abbrev pub LooksOnly : Type 0
+LooksOnly = (text : List ℕ) (c : Cursor) (r : Step) → LookedAt text c r → (tokIn text (r .found) ≡ hd (stream text c)) × (stream text (r .next) ≡ stream text c)
+
+-- "a token looked at and not yet taken is held [..] and comes out once": it is taken as if it had not been looked at
+abbrev pub ComesOut : Type 0
+ComesOut = (text : List ℕ) (c : Cursor) (r r′ : Step) → LookedAt text c r → Taken text (r .next) r′ → Taken text c r′

@@ -6,7 +6,7 @@ use mathlib.Core.List.{List}
 use Prim.Native.Nat.{ℕ, _≤_}
 use lib.ListN.{length}
 use Rattle.limits.specs.Limits.{textLimit}
-use Rattle.store.specs.Rows.{nodeRoom, numberRoom, padded}
+use Rattle.store.specs.Rows.{nodeRoom, numberRoom, zeros, padded}
 use Rattle.wkt.specs.declared.ReadAnswer.{ReadAnswer}
 use Rattle.shape.specs.Store.{wellFormed, illFormed}
 use Rattle.to_wkt.specs.declared.WriteAnswer.{WriteAnswer}
@@ -59,3 +59,28 @@ ReadsAgain =
     (ps qs : List ℕ) (c : ReadAnswer) (ps′ qs′ : List ℕ) → nodeRoom (usedNodes a ns′) ≤ nodeRoom ps → numberRoom (usedNumbers a ms′) ≤ numberRoom qs →
     Read (textOf text (usedNodes a ns′) (usedNumbers a ms′)) ps qs c ps′ qs′ →
     (usedNodes c ps′ ≡ usedNodes a ns′) × (allTexts (textOf text (usedNodes a ns′) (usedNumbers a ms′)) (usedNumbers c qs′) ≡ allTexts text (usedNumbers a ms′))
+
+-- ---- what is shut out
+-- what a call leaves; a writer, as a function of the text, the rows and the room; one that meets the contract of `write`
+pub record Put : Type 0 where
+  pub answer : WriteAnswer
+  pub bytes : List ℕ
+
+abbrev pub Writer : Type 0
+Writer = List ℕ → List ℕ → List ℕ → ℕ → Put
+
+abbrev pub MeetsWrite : Writer → Type 0
+MeetsWrite f = (text nodes numbers : List ℕ) (room : ℕ) → Written text nodes numbers room (f text nodes numbers room .answer) (f text nodes numbers room .bytes)
+
+-- "a writer that copies one fixed text" (as an edit of the code: to_wkt/fixed_text)
+abbrev pub FixedText : Writer → Type 0
+FixedText f =
+    (text nodes numbers text′ nodes′ numbers′ : List ℕ) (room : ℕ) → f text nodes numbers room .answer .number ≡ 0 → f text′ nodes′ numbers′ room .answer .number ≡ 0 →
+    f text nodes numbers room .bytes ≡ f text′ nodes′ numbers′ room .bytes
+
+-- "or writes nothing" (to_wkt/says_nothing)
+abbrev pub WritesNothing : Writer → Type 0
+WritesNothing f = (text nodes numbers : List ℕ) (room : ℕ) → f text nodes numbers room .answer .number ≡ 0 → f text nodes numbers room .bytes ≡ zeros room
+
+abbrev pub NoWriter : (Writer → Type 0) → Type 0
+NoWriter Bad = (f : Writer) → MeetsWrite f → Bad f → ⊥

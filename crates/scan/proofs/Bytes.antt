@@ -1,12 +1,13 @@
 -- The classes of bytes, held against each other.
 -- Assumes nothing.
 use mathlib.Core.Path.{_≡_, refl, sym, ap, _∙_}
-use mathlib.Core.Bool.{Bool, true, false, not, _||_, false≢true, and-eq-true-iff}
-use Prim.Native.Nat.{ℕ, _≤_, _<_}
+use mathlib.Core.Bool.{Bool, true, false, not, _||_, or-false, false≢true, and-eq-true-iff}
+use mathlib.Core.Logic.{_⊎_, ⊎-elim}
+use Prim.Native.Nat.{ℕ, _+_, _≤_, _<_}
 use native.Mathlib.Omega.{arith}
 use lib.Dec.{eqb, leb}
-use borrow.Author.Tests.{leb-true, eqb-true, ne-eqb}
-use Rattle.scan.specs.Bytes.{isInner, isDigit, isSign, isPlus, isPoint, isNumberlike, plus, minus, point}
+use borrow.Author.Tests.{leb-true, eqb-true, eqb-false, ne-eqb}
+use Rattle.scan.specs.Bytes.{isBlank, isStop, isInner, isDigit, isSign, isPlus, isPoint, isNumberlike, plus, minus, point}
 
 pub or-elim : {C : Type 0} (a b : Bool) → (a ≡ true → C) → (b ≡ true → C) → (a || b) ≡ true → C
 or-elim true b f g e = f refl
@@ -23,6 +24,25 @@ not-wider p q wider b e = go (p b) refl
     go : (t : Bool) → p b ≡ t → t ≡ false
     go true h = absurd (false≢true (sym e ∙ wider b h))
     go false h = refl
+
+-- a byte that is one of two that pass a test: of any two, and of two neighbours
+module _ (p : ℕ → Bool) where
+  pub either-key : (j k b : ℕ) → p j ≡ true → p k ≡ true → (b ≡ j) ⊎ (b ≡ k) → true ≡ p b
+  either-key j k b f g = ⊎-elim (λ e. sym (ap p e ∙ f)) (λ e. sym (ap p e ∙ g))
+
+  pub either-next : (j b : ℕ) → p j ≡ true → p (j + 1) ≡ true → j ≤ b → b < j + 2 → true ≡ p b
+  either-next j b f g h k = go (eqb b j) refl
+    where
+      go : (t : Bool) → eqb b j ≡ t → true ≡ p b
+      go true e = sym (ap p (eqb-true b j e) ∙ f)
+      go false e = let n : b ≡ j + 1 = omega (arith, eqb-false b j e) in sym (ap p n ∙ g)
+
+pub no-blank : (b : ℕ) → (b ≡ 32 → ⊥) → (b ≡ 9 → ⊥) → (b ≡ 10 → ⊥) → (b ≡ 13 → ⊥) → false ≡ isBlank b
+no-blank b s t l c = rw (ne-eqb b 32 s, ne-eqb b 9 t, ne-eqb b 10 l, ne-eqb b 13 c)
+
+-- what is no mark stops where it is a blank
+pub no-mark : (b : ℕ) → (b ≡ 0 → ⊥) → (b ≡ 40 → ⊥) → (b ≡ 41 → ⊥) → (b ≡ 44 → ⊥) → isBlank b ≡ isStop b
+no-mark b n o c k = rw (ne-eqb b 0 n, ne-eqb b 40 o, ne-eqb b 41 c, ne-eqb b 44 k) (sym (or-false (isBlank b)))
 
 -- past the comma stands no blank and no mark
 pub above-inner : (b : ℕ) → 45 ≤ b → isInner b ≡ true

@@ -3,18 +3,30 @@ ghost use mathlib.Core.Path.{_≡_};
 ghost use Rattle.scan.specs.Bytes.{isBlank, isStop, isInner, isDigit, isSign, isPlus, isPoint, isNumberlike};
 ghost use Rattle.scan.specs.Runs.{firstNot, afterOneAt};
 
-// Space, tab, line feed and carriage return.
+// Space, tab, line feed and carriage return. Most bytes stand above them all.
 pub fn is_blank(b: u8) -> bool
     ensures { λ r. ⌜ r ≡ isBlank b ⌝ }
 {
-    (b == b' ') | (b == b'\t') | (b == b'\n') | (b == b'\r')
+    if b' ' < b {
+        return false;
+    }
+    match b {
+        b' ' | b'\t' | b'\n' | b'\r' => true,
+        _ => false,
+    }
 }
 
-// What ends a number or a word: a blank, or one of the marks NUL, `(`, `)` and `,`.
+// What ends a number or a word: a blank, or one of the marks NUL, `(`, `)` and `,`. Most bytes stand above them all.
 pub fn is_stop(b: u8) -> bool
     ensures { λ r. ⌜ r ≡ isStop b ⌝ }
 {
-    is_blank(b) | ((b == 0) | (b == b'(') | (b == b')') | (b == b','))
+    if b',' < b {
+        return false;
+    }
+    match b {
+        0 | b'(' | b')' | b',' => true,
+        _ => is_blank(b),
+    }
 }
 
 pub fn is_digit(b: u8) -> bool

@@ -1,6 +1,6 @@
 -- `firstIll` by characters: one at the front and on past it, or none there. Only this file opens `walk`.
 -- Assumes nothing.
-use mathlib.Core.Path.{_≡_, refl, sym}
+use mathlib.Core.Path.{_≡_, refl, sym, _∙_}
 use mathlib.Core.Bool.{Bool, true, false, cond, false≢true, and-eq-true-iff}
 use mathlib.Core.List.{List, [], _∷_}
 use Prim.Native.Nat.{ℕ, zero, suc, _+_, _≤_, _<_, suc-le-suc}
@@ -87,6 +87,10 @@ module _ (text : List ℕ) (i : ℕ) where
 
   pub on-ascii : i < length text → getD text i 0 < 0x80 → (i + 1) + firstIll (rest text (i + 1)) ≡ i + firstIll (rest text i)
   on-ascii h k = on 1 (rw (rest-in text i h) (sym (width-ascii (getD text i 0) (rest text (i + 1)) k))) (omega arith)
+
+  -- a step past a byte where what is known so far hangs on the greatest byte: where that is ASCII, all are
+  pub on-most : (from most more : ℕ) → i < length text → (most < 0x80 → i + firstIll (rest text i) ≡ from) → most ≤ more → getD text i 0 ≤ more → more < 0x80 → (i + 1) + firstIll (rest text (i + 1)) ≡ from
+  on-most from most more h so-far m b k = on-ascii h (omega arith) ∙ so-far (omega arith)
 
   pub stop : 0 ≡ width (rest text i) → i ≡ i + firstIll (rest text i)
   stop e = omega (arith, no-character (rest text i) (sym e))

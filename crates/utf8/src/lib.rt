@@ -1,6 +1,7 @@
 // Well-formed UTF-8, by the Unicode Standard's table 3-7.
 ghost use mathlib.Core.Path.{_≡_};
-ghost use Prim.Native.Nat.{_<_};
+ghost use mathlib.Core.Bool.{true};
+ghost use Prim.Native.Nat.{_+_, _≤_, _<_};
 ghost use lib.ListN.{length};
 ghost use Rattle.scan.specs.Front.{rest, begins};
 ghost use Rattle.utf8.specs.Utf8.{holds, _‥_, width, firstIll};
@@ -82,11 +83,46 @@ fn width_at(text: &[u8], i: usize) -> usize
     width
 }
 
+// How many bytes are tested for ASCII at once.
+const CHUNK: usize = 64;
+
+// Whether all bytes from `from` up to `end` are ASCII: then the greatest of them is. No byte ends the loop, so that many can be taken at once.
+fn all_ascii(text: &[u8], from: usize, end: usize) -> bool
+    requires { ⌜ (from ≤ end) × (end ≤ length (now text)) ⌝ }
+    ensures { λ r. ⌜ (r ≡ true → end + firstIll (rest (now (text .entry)) end) ≡ from + firstIll (rest (now (text .entry)) from)) ⌝ }
+{
+    let mut most = 0;
+    let mut i = from;
+    while i < end {
+        if most < text[i] {
+            most = text[i];
+        }
+        i += 1;
+    }
+    most < ASCII_END
+}
+
+// Where the chunks at the front that are all ASCII end. Past them bytes are looked at one by one: in a text with many wide characters
+// chunks would be tried in vain.
+fn ascii_front(text: &[u8]) -> usize
+    ensures { λ r. ⌜ (r ≤ length (now (text .entry))) × (r + firstIll (rest (now (text .entry)) r) ≡ firstIll (now (text .entry))) ⌝ }
+{
+    let mut i = 0;
+    while CHUNK <= text.len() - i {
+        if all_ascii(text, i, i + CHUNK) {
+            i += CHUNK;
+        } else {
+            return i;
+        }
+    }
+    i
+}
+
 // The first place where no whole character starts, or the end.
 pub fn first_ill_formed(text: &[u8]) -> usize
     ensures { λ r. ⌜ r ≡ firstIll (now (text .entry)) ⌝ }
 {
-    let mut i = 0;
+    let mut i = ascii_front(text);
     while i < text.len() {
         if text[i] < ASCII_END {
             i += 1;

@@ -1,6 +1,8 @@
 mod Ascii
 mod Tokens
+mod Marks
 mod Numbers
+mod PlainNumbers
 mod Lists
 mod Parts
 mod Heads

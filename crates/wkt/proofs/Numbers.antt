@@ -9,10 +9,9 @@ use lib.Dec.{eqb, ltb}
 use lib.ListN.{length, drop, length-drop}
 use lib.Seq.{length-take-le}
 use borrow.Author.Tests.{eq-eqb, ne-eqb, lt-ltb, le-ltb}
-use Rattle.tokenizer.specs.declared.Cursor.{Cursor}
 use Rattle.tokenizer.specs.declared.Refusal.{Refusal}
 use Rattle.tokenizer.specs.Tokens.{badAt}
-use Rattle.tokenizer.specs.Stream.{hd, spanIn, stream}
+use Rattle.tokenizer.specs.Stream.{hd, spanIn, toks}
 use Rattle.store.specs.Rows.{Row, Span, span, numberRoom, spansIn, putSpan}
 use Rattle.store.proofs.Rows.{spans-length, spans-put}
 use Rattle.grammar.specs.Demand.{ret, run}
@@ -20,22 +19,20 @@ use Rattle.grammar.specs.Tokens.{sortBad, sortNumber, sortOf, textOf}
 use Rattle.grammar.specs.Grammar.{refusal, andThen, number, thenNumber, ifAsked, hasZ, hasM, coord}
 use Rattle.grammar.proofs.Demand.{run-ret, run-step}
 use Rattle.wkt.specs.Seen.{Takes}
-use Rattle.wkt.specs.Means.{usedBy, gotOf, cursorOf, Room, Fine, FineAny, Met, MetNumber, MetOn, MetCoord}
+use Rattle.wkt.specs.Means.{usedBy, gotOf, behind, Room, Fine, FineAny, Met, MetNumber, MetOn, MetCoord}
+use Rattle.wkt.specs.Plain.{state}
 use Rattle.wkt.specs.declared.seen.Seen.{Seen}
 use Rattle.wkt.specs.declared.State.{State}
 use Rattle.wkt.specs.declared.Answer.{Answer}
 use Rattle.wkt.specs.declared.Answer.the-variants.{Done, Refused, Stopped}
 use Rattle.wkt.proofs.Tokens.{asks}
 
-abbrev pub state : Cursor → ℕ → ℕ → State
-state c n m = record { cursor = c; nodes = n; numbers = m }
-
 -- a span within the text is as long as it says
 span-length : (text : List ℕ) (q l : ℕ) (x : List ℕ) → q + l ≤ length text → spanIn text q l ≡ x → length x ≡ l
 span-length text q l x h e = ap length (sym e) ∙ length-take-le l (drop q text) (omega (arith, length-drop q text))
 
 -- a number
-module _ {text ms : List ℕ} {s : State} {t : Seen} (e : ℕ) (v : Room text (s .nodes) (numberRoom ms) s) (x : Takes text (s .cursor) t) where
+module _ {text ms : List ℕ} {s : State} {t : Seen} (e : ℕ) (v : Room text (s .nodes) (numberRoom ms) s) (x : Takes text (s .at) t) where
   pub number-done : t .sort ≡ sortNumber → s .numbers < numberRoom ms → MetNumber text e s ms (Done (state (t .next) (s .nodes) (s .numbers + 1))) (putSpan ms (s .numbers) (t .start) (t .len))
   unfolding number
   number-done k h = record {
@@ -45,9 +42,9 @@ module _ {text ms : List ℕ} {s : State} {t : Seen} (e : ℕ) (v : Room text (s
         record {
           is =
               asks _ x
-              ∙ rw (eq-eqb (sortOf (hd (stream text (s .cursor)))) sortNumber (sym (f .sort) ∙ k), spans-length, lt-ltb (s .numbers) M (omega (arith, g, h)), ← f .start k, span-length text (t .start) (t .len) _ (f .fits) (f .spelt), ← f .spelt, u)
+              ∙ rw (eq-eqb (sortOf (hd (toks text (s .at)))) sortNumber (sym (f .sort) ∙ k), spans-length, lt-ltb (s .numbers) M (omega (arith, g, h)), ← f .start k, span-length text (t .start) (t .len) _ (f .fits) (f .spelt), ← f .spelt, u)
               (run-ret _ _);
-          fine = record { short = v .short; sound = x .sound; nodes = b; numbers = omega (arith, g, h) };
+          fine = record { short = v .short; nodes = b; numbers = omega (arith, g, h) };
         };
   }
 
@@ -59,7 +56,7 @@ module _ {text ms : List ℕ} {s : State} {t : Seen} (e : ℕ) (v : Room text (s
         record {
           is =
               asks _ x
-              ∙ rw (eq-eqb (sortOf (hd (stream text (s .cursor)))) sortNumber (sym (f .sort) ∙ k), spans-length, le-ltb (s .numbers) M (omega (arith, g, h)), ← f .place)
+              ∙ rw (eq-eqb (sortOf (hd (toks text (s .at)))) sortNumber (sym (f .sort) ∙ k), spans-length, le-ltb (s .numbers) M (omega (arith, g, h)), ← f .place)
               (run-ret _ _);
           fine = tt;
         };
@@ -73,15 +70,15 @@ module _ {text ms : List ℕ} {s : State} {t : Seen} (e : ℕ) (v : Room text (s
         record {
           is =
               asks _ x
-              ∙ rw (ne-eqb (sortOf (hd (stream text (s .cursor)))) sortNumber (λ z. k (f .sort ∙ z)), f .refuses e, ← h)
+              ∙ rw (ne-eqb (sortOf (hd (toks text (s .at)))) sortNumber (λ z. k (f .sort ∙ z)), f .refuses e, ← h)
               (run-ret _ _);
-          fine = x .sound;
+          fine = tt;
         };
   }
 
 -- one number more
 pub any : (text : List ℕ) (N M : ℕ) (a : Answer) → Fine text N M a → FineAny text M a
-any text N M (Done q) f = record { short = f .short; sound = f .sound; nodes = omega arith; numbers = f .numbers }
+any text N M (Done q) f = record { short = f .short; nodes = omega arith; numbers = f .numbers }
 any text N M (Refused r c) f = tt
 any text N M (Stopped r c) f = tt
 
@@ -90,11 +87,11 @@ module _ (e : ℕ) {text ms : List ℕ} {a : Answer} where
   unfolding thenNumber andThen
   then-done d m = record { met = λ N M R g f. rw d (m .met N M R g ((rw d at f) .nodes)) }
 
-  pub then-refused : {r : Refusal} {c : Cursor} → a ≡ Refused r c → MetOn text (λ M. thenNumber M e) a ms (Refused r c) ms
+  pub then-refused : {r : Refusal} {c : ℕ} → a ≡ Refused r c → MetOn text (λ M. thenNumber M e) a ms (Refused r c) ms
   unfolding thenNumber andThen
   then-refused d = record { met = λ N M R g f. rw d (record { is = run-ret _ _; fine = rw d at f }) }
 
-  pub then-stopped : {r : Refusal} {c : Cursor} → a ≡ Stopped r c → MetOn text (λ M. thenNumber M e) a ms (Stopped r c) ms
+  pub then-stopped : {r : Refusal} {c : ℕ} → a ≡ Stopped r c → MetOn text (λ M. thenNumber M e) a ms (Stopped r c) ms
   unfolding thenNumber andThen
   then-stopped d = record { met = λ N M R g f. rw d (record { is = run-ret _ _; fine = tt }) }
 

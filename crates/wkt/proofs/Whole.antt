@@ -10,10 +10,8 @@ use borrow.Author.Tests.{lt-ltb, eq-eqb, ne-eqb, ltb-false}
 use Rattle.limits.specs.Limits.{textLimit, overLimit}
 use Rattle.utf8.specs.Utf8.{firstIll}
 use Rattle.utf8.proofs.Walk.{in-text}
-use Rattle.tokenizer.specs.declared.Cursor.{Cursor}
 use Rattle.tokenizer.specs.declared.Refusal.{Refusal}
-use Rattle.tokenizer.specs.Tokens.{cursorAt}
-use Rattle.tokenizer.specs.Stream.{stream}
+use Rattle.tokenizer.specs.Stream.{toks}
 use Rattle.tokenizer.proofs.Bridge.{toks-lex}
 use Rattle.store.specs.Rows.{nodeWidth, numberWidth, nodeRoom, numberRoom, firsts, rowsIn, spansIn, cleared}
 use Rattle.store.proofs.Rows.{rows-length, rows-cleared, spans-length, spans-cleared}
@@ -22,14 +20,14 @@ use Rattle.grammar.specs.Grammar as spec
 use Rattle.grammar.specs.Grammar.{out, refused, rootHead, root}
 use Rattle.grammar.specs.Whole.{depthLimit, enough, reading}
 use Rattle.grammar.proofs.Demand.{run-step}
-use Rattle.wkt.specs.Means.{gotOf, Room, Fine, MetHead, Reads, at, headCursor, geometryOf}
+use Rattle.wkt.specs.Means.{gotOf, Room, Fine, MetHead, Reads, onAt, headEnd, geometryOf}
 use Rattle.wkt.specs.Whole.{Leaves, rootIn, Within, Finishes}
 use Rattle.wkt.specs.declared.State.{State}
 use Rattle.wkt.specs.declared.Answer.{Answer}
 use Rattle.wkt.specs.declared.Answer.the-variants.{Done, Refused, Stopped}
 use Rattle.wkt.specs.declared.Head.{Head}
 use Rattle.wkt.specs.declared.ReadAnswer.{ReadAnswer}
-use Rattle.wkt.proofs.Numbers.{state}
+use Rattle.wkt.specs.Plain.{state}
 
 -- what the slices are left with
 module _ {ns ms : List ℕ} {got : Answer} {ns′ ms′ : List ℕ} where
@@ -42,10 +40,10 @@ module _ {ns ms : List ℕ} {got : Answer} {ns′ ms′ : List ℕ} where
     });
   }
 
-  pub finish-refused : {r : Refusal} {c : Cursor} {a : ReadAnswer} → got ≡ Refused r c → Leaves (refused r) ns ms a ns′ ms′ → Finishes got ns ms a ns′ ms′
+  pub finish-refused : {r : Refusal} {c : ℕ} {a : ReadAnswer} → got ≡ Refused r c → Leaves (refused r) ns ms a ns′ ms′ → Finishes got ns ms a ns′ ms′
   finish-refused e l = record { met = λ text. rw e l }
 
-  pub finish-stopped : {r : Refusal} {c : Cursor} {a : ReadAnswer} → got ≡ Stopped r c → Leaves (refused r) ns ms a ns′ ms′ → Finishes got ns ms a ns′ ms′
+  pub finish-stopped : {r : Refusal} {c : ℕ} {a : ReadAnswer} → got ≡ Stopped r c → Leaves (refused r) ns ms a ns′ ms′ → Finishes got ns ms a ns′ ms′
   finish-stopped e l = record { met = λ text. rw e (record { answer = l .answer; nodes = l .nodes; numbers = l .numbers }) }
 
 fine-within : (text ns ms : List ℕ) (a : Answer) → Fine text (nodeRoom ns) (numberRoom ms) a → Within ns ms a
@@ -54,13 +52,13 @@ fine-within text ns ms (Refused r c) f = tt
 fine-within text ns ms (Stopped r c) f = tt
 
 -- the root: its heading, and the geometry after it
-module _ {text ns ms ns₁ ms₁ : List ℕ} {c : Cursor} {h : Head} {got : Answer} (i : c ≡ cursorAt 0) (m : MetHead text rootHead (stream text c) h) (g : Reads text (geometryOf depthLimit h) (at (headCursor h) (state c 0 0)) ns ms got ns₁ ms₁) where
+module _ {text ns ms ns₁ ms₁ : List ℕ} {h : Head} {got : Answer} (m : MetHead text rootHead (toks text 0) h) (g : Reads text (geometryOf depthLimit h) (onAt (headEnd h) (state 0 0 0)) ns ms got ns₁ ms₁) where
   pub root-within : length ns₁ ≡ length ns → length ms₁ ≡ length ms → Within ns₁ ms₁ got
   root-within ln lm = fine-within text ns₁ ms₁ got (g .met (nodeRoom ns₁) (numberRoom ms₁) (rw ln) (rw lm) .fine)
 
   root-is : rootIn (nodeRoom ns) (numberRoom ms) text ≡ gotOf (rowsIn ns₁) (spansIn text ms₁) got
-  unfolding rootIn root rowsIn spansIn firsts stream
-  root-is = ap answerIn (run-step _ _ _ ((rw i at m) .is) ∙ g .met (nodeRoom ns) (numberRoom ms) refl refl .is)
+  unfolding rootIn root rowsIn spansIn firsts
+  root-is = ap answerIn (run-step _ _ _ (m .is) ∙ g .met (nodeRoom ns) (numberRoom ms) refl refl .is)
 
   pub root-left : {a : ReadAnswer} {ns′ ms′ : List ℕ} → length ns₁ ≡ length ns → length ms₁ ≡ length ms → Finishes got ns₁ ms₁ a ns′ ms′ → Leaves (rootIn (nodeRoom ns) (numberRoom ms) text) ns ms a ns′ ms′
   root-left ln lm f = let l = f .met text in rw root-is (record { answer = l .answer; nodes = rw (← ln) (l .nodes); numbers = rw (← lm) (l .numbers) })

@@ -1,3 +1,4 @@
 pub mod Seen
 pub mod Means
+pub mod Plain
 pub mod Whole

@@ -4,9 +4,7 @@ use mathlib.Core.Path.{_≡_}
 use mathlib.Core.List.{List}
 use Prim.Native.Nat.{ℕ, _+_, _≤_, _<_, _^_}
 use lib.ListN.{length}
-use Rattle.tokenizer.specs.declared.Cursor.{Cursor}
-use Rattle.tokenizer.specs.Stream.{Str, hd, tl, stream}
-use Rattle.tokenizer.specs.Sound.{Sound}
+use Rattle.tokenizer.specs.Stream.{Str, hd, tl, toks}
 use Rattle.store.specs.Rows.{Row, Span, nodeRoom, numberRoom, rowsIn, spansIn}
 use Rattle.grammar.specs.Demand.{P, ret, ran, run}
 use Rattle.grammar.specs.Tokens.{sortComma, sortOf}
@@ -30,26 +28,25 @@ gotOf R S (Done q) = ok (usedBy R S q)
 gotOf R S (Refused r c) = refused r
 gotOf R S (Stopped r c) = halt r
 
-abbrev pub cursorOf : Answer → Cursor
-cursorOf (Done q) = q .cursor
-cursorOf (Refused r c) = c
-cursorOf (Stopped r c) = c
+abbrev pub behind : Answer → ℕ
+behind (Done q) = q .at
+behind (Refused r c) = c
+behind (Stopped r c) = c
 
--- a state at another cursor
-abbrev pub at : Cursor → State → State
-at c s = record { cursor = c; nodes = s .nodes; numbers = s .numbers }
+-- a state at another place
+abbrev pub onAt : ℕ → State → State
+onAt c s = record { at = c; nodes = s .nodes; numbers = s .numbers }
 
 -- a state within a room for N node rows and M number rows
 pub record Room (text : List ℕ) (N M : ℕ) (s : State) : Type 0 where
   pub short : length text + 2 < 2 ^ 32
-  pub sound : Sound text (s .cursor)
   pub nodes : s .nodes ≤ N
   pub numbers : s .numbers ≤ M
 
 -- what is known of an answer: where it is read on, the state is within the room
 abbrev pub Fine : List ℕ → ℕ → ℕ → Answer → Type 0
 Fine text N M (Done q) = Room text N M q
-Fine text N M (Refused r c) = Sound text c
+Fine text N M (Refused r c) = Unit {0}
 Fine text N M (Stopped r c) = Unit {0}
 
 -- the same for whoever is lent the numbers only
@@ -58,15 +55,9 @@ FineAny text M (Done q) = Room text (q .nodes) M q
 FineAny text M (Refused r c) = Unit {0}
 FineAny text M (Stopped r c) = Unit {0}
 
--- the cursor behind an answer is sound, if one more token is taken there
-abbrev pub Known : List ℕ → Answer → Type 0
-Known text (Done q) = Sound text (q .cursor)
-Known text (Refused r c) = Sound text c
-Known text (Stopped r c) = Unit {0}
-
 -- the reader p, fed with s, comes to r
 pub record Met (text : List ℕ) (N M : ℕ) (R : ℕ → List Row) (S : ℕ → List Span) (p : P Got) (s : Str) (r : Answer) : Type 0 where
-  pub is : run p s ≡ ran (gotOf R S r) (stream text (cursorOf r))
+  pub is : run p s ≡ ran (gotOf R S r) (toks text (behind r))
   pub fine : Fine text N M r
 
 abbrev pub headOf : Head → spec.Head
@@ -74,51 +65,48 @@ headOf (Opens k d p c) = opens k d p
 headOf (Empty k d p c) = empty k d p
 headOf (Wrong r c) = wrong r
 
-abbrev pub headCursor : Head → Cursor
-headCursor (Opens k d p c) = c
-headCursor (Empty k d p c) = c
-headCursor (Wrong r c) = c
+abbrev pub headEnd : Head → ℕ
+headEnd (Opens k d p c) = c
+headEnd (Empty k d p c) = c
+headEnd (Wrong r c) = c
 
 -- the reader p of a heading, fed with s, comes to r
 pub record MetHead (text : List ℕ) (p : P spec.Head) (s : Str) (r : Head) : Type 0 where
-  pub is : run p s ≡ ran (headOf r) (stream text (headCursor r))
-  pub sound : Sound text (headCursor r)
+  pub is : run p s ≡ ran (headOf r) (toks text (headEnd r))
 
 -- a function that is lent the numbers says its equation for all node rows
 pub record MetNumber (text : List ℕ) (e : ℕ) (s : State) (ms : List ℕ) (r : Answer) (ms′ : List ℕ) : Type 0 where
   pub met :
       (N M : ℕ) (R : ℕ → List Row) → numberRoom ms ≡ M → s .nodes ≤ N →
-      Met text N M R (spansIn text ms′) (spec.number M e (usedBy R (spansIn text ms) s)) (stream text (s .cursor)) r
+      Met text N M R (spansIn text ms′) (spec.number M e (usedBy R (spansIn text ms) s)) (toks text (s .at)) r
 
 -- one that goes on from an answer; g is what it reads there
 pub record MetOn (text : List ℕ) (g : ℕ → Got → P Got) (a : Answer) (ms : List ℕ) (r : Answer) (ms′ : List ℕ) : Type 0 where
   pub met :
       (N M : ℕ) (R : ℕ → List Row) → numberRoom ms ≡ M → Fine text N M a →
-      Met text N M R (spansIn text ms′) (g M (gotOf R (spansIn text ms) a)) (stream text (cursorOf a)) r
+      Met text N M R (spansIn text ms′) (g M (gotOf R (spansIn text ms) a)) (toks text (behind a)) r
 
 pub record MetCoord (text : List ℕ) (d : ℕ) (s : State) (ms : List ℕ) (r : Answer) (ms′ : List ℕ) : Type 0 where
   pub met :
       (N M : ℕ) (R : ℕ → List Row) → numberRoom ms ≡ M → s .nodes ≤ N →
-      Met text N M R (spansIn text ms′) (spec.coord M d (usedBy R (spansIn text ms) s)) (stream text (s .cursor)) r
+      Met text N M R (spansIn text ms′) (spec.coord M d (usedBy R (spansIn text ms) s)) (toks text (s .at)) r
 
 -- one that is lent neither says it for all rows
 pub record MetClosing (text : List ℕ) (a r : Answer) : Type 0 where
   pub met :
       (N M : ℕ) (R : ℕ → List Row) (S : ℕ → List Span) → Fine text N M a →
-      Met text N M R S (spec.closing (gotOf R S a)) (stream text (cursorOf a)) r
+      Met text N M R S (spec.closing (gotOf R S a)) (toks text (behind a)) r
 
 -- what follows a part: a comma, which is passed over, or another token, which stays
 pub record CommaAt (text : List ℕ) (s q : State) : Type 0 where
-  pub comma : sortOf (hd (stream text (s .cursor))) ≡ sortComma
-  pub left : tl (stream text (s .cursor)) ≡ stream text (q .cursor)
-  pub sound : Sound text (q .cursor)
-  pub same : q ≡ at (q .cursor) s
+  pub comma : sortOf (hd (toks text (s .at))) ≡ sortComma
+  pub left : tl (toks text (s .at)) ≡ toks text (q .at)
+  pub same : q ≡ onAt (q .at) s
 
 pub record LastAt (text : List ℕ) (s q : State) : Type 0 where
-  pub other : sortOf (hd (stream text (s .cursor))) ≡ sortComma → ⊥
-  pub left : stream text (s .cursor) ≡ stream text (q .cursor)
-  pub sound : Sound text (q .cursor)
-  pub same : q ≡ at (q .cursor) s
+  pub other : sortOf (hd (toks text (s .at))) ≡ sortComma → ⊥
+  pub left : toks text (s .at) ≡ toks text (q .at)
+  pub same : q ≡ onAt (q .at) s
 
 abbrev pub Follows : List ℕ → State → After → Type 0
 Follows text s (Comma q) = CommaAt text s q
@@ -128,7 +116,7 @@ Follows text s (Last q) = LastAt text s q
 pub record MetNode (text : List ℕ) (k d p : ℕ) (s : State) (ns : List ℕ) (r : Answer) (ns′ : List ℕ) : Type 0 where
   pub met :
       (N M : ℕ) (S : ℕ → List Span) → nodeRoom ns ≡ N → Room text N M s →
-      Met text N M (rowsIn ns′) S (ret (spec.addNode N (usedBy (rowsIn ns) S s) p k d)) (stream text (s .cursor)) r
+      Met text N M (rowsIn ns′) S (ret (spec.addNode N (usedBy (rowsIn ns) S s) p k d)) (toks text (s .at)) r
 
 -- a part of the grammar, with room for N node rows and M number rows
 abbrev pub Part : Type 0
@@ -138,7 +126,7 @@ Part = ℕ → ℕ → Out → P Got
 pub record Reads (text : List ℕ) (g : Part) (s : State) (ns ms : List ℕ) (r : Answer) (ns′ ms′ : List ℕ) : Type 0 where
   pub met :
       (N M : ℕ) → nodeRoom ns ≡ N → numberRoom ms ≡ M →
-      Met text N M (rowsIn ns′) (spansIn text ms′) (g N M (usedBy (rowsIn ns) (spansIn text ms) s)) (stream text (s .cursor)) r
+      Met text N M (rowsIn ns′) (spansIn text ms′) (g N M (usedBy (rowsIn ns) (spansIn text ms) s)) (toks text (s .at)) r
 
 -- what is asked of a state before both slices are lent
 abbrev pub Fits : List ℕ → List ℕ → List ℕ → State → Type 0

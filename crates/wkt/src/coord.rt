@@ -6,6 +6,7 @@ use crate::NO_X;
 use crate::NO_Y;
 use crate::NO_Z;
 use crate::State;
+use crate::plain_coord;
 use crate::seen;
 use crate::seen::NUMBER;
 use names::DIM_XYM;
@@ -17,13 +18,13 @@ ghost use Rattle.store.specs.Rows.{numberRoom};
 ghost use Rattle.grammar.specs.Grammar.{thenNumber, ifAsked, hasZ, hasM};
 ghost use Rattle.wkt.specs.Means.{Room, FineAny, MetNumber, MetOn, MetCoord};
 
-fn has_z(dimension: u32) -> bool
+pub fn has_z(dimension: u32) -> bool
     ensures { λ r. ⌜ r ≡ hasZ dimension ⌝ }
 {
     (dimension == DIM_XYZ) | (dimension == DIM_XYZM)
 }
 
-fn has_m(dimension: u32) -> bool
+pub fn has_m(dimension: u32) -> bool
     ensures { λ r. ⌜ r ≡ hasM dimension ⌝ }
 {
     (dimension == DIM_XYM) | (dimension == DIM_XYZM)
@@ -34,16 +35,16 @@ fn number(text: &[u8], numbers: &mut [u32], missing: u32, s: State) -> Answer
     requires { ⌜ Room (now text) (s .nodes) (numberRoom (now numbers)) s ⌝ }
     ensures { λ r. ⌜ MetNumber (now (text .entry)) missing s (now (numbers .entry)) r (now (numbers .exit)) ⌝ }
 {
-    let cursor = s.cursor;
+    let at = s.at;
     let nodes = s.nodes;
     let used = s.numbers;
-    let token = seen::take(text, cursor);
+    let token = seen::take(text, at);
     let next = token.next;
     if token.sort == NUMBER {
         if used < store::number_room(numbers) {
             store::put_number(numbers, used, token.start as u32, token.len as u32);
             Answer::Done(State {
-                cursor: next,
+                at: next,
                 nodes,
                 numbers: used + 1,
             })
@@ -88,8 +89,8 @@ fn if_asked(text: &[u8], numbers: &mut [u32], asked: bool, missing: u32, prior: 
     }
 }
 
-// X, Y, then Z and M as the dimension asks.
-pub fn coord(text: &[u8], numbers: &mut [u32], dimension: u32, s: State) -> Answer
+// X, Y, then Z and M as the dimension asks, a token for each.
+fn by_tokens(text: &[u8], numbers: &mut [u32], dimension: u32, s: State) -> Answer
     requires { ⌜ Room (now text) (s .nodes) (numberRoom (now numbers)) s ⌝ }
     ensures { λ r. ⌜ MetCoord (now (text .entry)) dimension s (now (numbers .entry)) r (now (numbers .exit)) ⌝ }
 {
@@ -97,4 +98,24 @@ pub fn coord(text: &[u8], numbers: &mut [u32], dimension: u32, s: State) -> Answ
     let y = then_number(text, numbers, NO_Y, x);
     let z = if_asked(text, numbers, has_z(dimension), NO_Z, y);
     if_asked(text, numbers, has_m(dimension), NO_M, z)
+}
+
+// A coordinate: plain numbers at once, whatever else token by token.
+pub fn coord(text: &[u8], numbers: &mut [u32], dimension: u32, s: State) -> Answer
+    requires { ⌜ Room (now text) (s .nodes) (numberRoom (now numbers)) s ⌝ }
+    ensures { λ r. ⌜ MetCoord (now (text .entry)) dimension s (now (numbers .entry)) r (now (numbers .exit)) ⌝ }
+{
+    let at = s.at;
+    let nodes = s.nodes;
+    let used = s.numbers;
+    let width = plain_coord::width_of(dimension);
+    let end = plain_coord::coord(text, numbers, width, at, used);
+    if at < end {
+        return Answer::Done(State {
+            at: end,
+            nodes,
+            numbers: used + width,
+        });
+    }
+    by_tokens(text, numbers, dimension, s)
 }

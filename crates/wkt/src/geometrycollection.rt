@@ -25,7 +25,7 @@ pub fn collection(
     requires { ⌜ Fits (now text) (now nodes) (now numbers) s ⌝ }
     ensures { λ r. ⌜ Reads (now (text .entry)) (collectionOf depth dimension place) s (now (nodes .entry)) (now (numbers .entry)) r (now (nodes .exit)) (now (numbers .exit)) ⌝ }
 {
-    let cursor = s.cursor;
+    let at = s.at;
     let row = s.nodes;
     let used = s.numbers;
     if depth == 0 {
@@ -34,7 +34,7 @@ pub fn collection(
                 number: TOO_DEEP,
                 place,
             },
-            cursor,
+            at,
         );
     }
     if store::node_room(nodes) <= row {
@@ -43,26 +43,25 @@ pub fn collection(
                 number: NO_NODE_ROW,
                 place,
             },
-            cursor,
+            at,
         );
     }
     store::put_node(nodes, row, KIND_GEOMETRYCOLLECTION, dimension, 0);
-    let mut at = State {
-        cursor,
+    let mut here = State {
+        at,
         nodes: row + 1,
         numbers: used,
     };
     let mut parts: u32 = 0;
     loop {
-        let name = at.cursor;
-        let head = child_head(text, name);
-        let got = geometry(text, nodes, numbers, head, depth - 1, at);
+        let head = child_head(text, here.at);
+        let got = geometry(text, nodes, numbers, head, depth - 1, here);
         match got {
             Answer::Done(q) => {
                 parts += 1;
                 match after_part(text, q) {
                     After::Comma(next) => {
-                        at = next;
+                        here = next;
                     }
                     After::Last(end) => {
                         store::put_parts(nodes, row, parts);

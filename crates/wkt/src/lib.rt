@@ -5,6 +5,7 @@ mod linestring;
 mod multilinestring;
 mod multipoint;
 mod multipolygon;
+mod plain_coord;
 mod point;
 mod polygon;
 mod seen;
@@ -20,12 +21,11 @@ use names::KIND_POINT;
 use names::KIND_POLYGON;
 use names::Name;
 use seen::CLOSE;
-use seen::COMMA;
 use seen::OPEN;
+use seen::Seen;
 use seen::WORD;
 use store::NODE_WIDTH;
 use store::NUMBER_WIDTH;
-use tokenizer::Cursor;
 use tokenizer::Refusal;
 ghost use mathlib.Core.Path.{_≡_};
 ghost use Prim.Native.Nat.{_+_, _<_, _^_};
@@ -33,11 +33,11 @@ ghost use lib.ListN.{length};
 ghost use Rattle.scan.specs.Bytes.{isAscii};
 ghost use Rattle.names.specs.Lists.{every};
 ghost use Rattle.store.specs.Rows.{nodeRoom, numberRoom};
-ghost use Rattle.tokenizer.specs.Stream.{stream};
-ghost use Rattle.tokenizer.specs.Sound.{Sound};
+ghost use Rattle.tokenizer.specs.Stream.{hd, toks};
 ghost use Rattle.grammar.specs.Grammar.{refused, opener, header, byName, childHead, rootHead};
 ghost use Rattle.grammar.specs.Whole.{reading};
-ghost use Rattle.wkt.specs.Means.{Known, Follows, MetClosing, MetNode, MetHead, Fits, Reads, at, headCursor, multiOf, plainOf, geometryOf};
+ghost use Rattle.wkt.specs.Seen.{Takes};
+ghost use Rattle.wkt.specs.Means.{Follows, MetClosing, MetNode, MetHead, Fits, Reads, onAt, headEnd, multiOf, plainOf, geometryOf};
 ghost use Rattle.wkt.specs.Whole.{Leaves, Within, Finishes, rootIn};
 
 // The refusals, by the step at which the Rust gives its message.
@@ -80,7 +80,7 @@ const DEPTH_LIMIT: u32 = 32;
 
 // Where a reader stands, and how many rows are used.
 pub struct State {
-    pub cursor: Cursor,
+    pub at: usize,
     pub nodes: usize,
     pub numbers: usize,
 }
@@ -88,15 +88,15 @@ pub struct State {
 // What reading a part came to. After `Refused` the closing token is still taken; `Stopped` ends the reading at once.
 pub enum Answer {
     Done(State),
-    Refused(Refusal, Cursor),
-    Stopped(Refusal, Cursor),
+    Refused(Refusal, usize),
+    Stopped(Refusal, usize),
 }
 
 // What stands after a name: `(` or EMPTY, with the kind, the dimension and the place.
 pub enum Head {
-    Opens(u32, u32, usize, Cursor),
-    Empty(u32, u32, usize, Cursor),
-    Wrong(Refusal, Cursor),
+    Opens(u32, u32, usize, usize),
+    Empty(u32, u32, usize, usize),
+    Wrong(Refusal, usize),
 }
 
 // What follows a part: a comma, which is taken, or something else, which is only looked at.
@@ -107,17 +107,16 @@ pub enum After {
 
 // The token after a body that came to `got`: it is taken also where the body was refused.
 fn closing(text: &[u8], got: Answer) -> Answer
-    requires { ⌜ Known (now text) got ⌝ }
     ensures { λ r. ⌜ MetClosing (now (text .entry)) got r ⌝ }
 {
     match got {
         Answer::Done(s) => {
-            let cursor = s.cursor;
-            let token = seen::take(text, cursor);
+            let at = s.at;
+            let token = seen::take(text, at);
             let next = token.next;
             if token.sort == CLOSE {
                 Answer::Done(State {
-                    cursor: next,
+                    at: next,
                     nodes: s.nodes,
                     numbers: s.numbers,
                 })
@@ -128,8 +127,8 @@ fn closing(text: &[u8], got: Answer) -> Answer
                 )
             }
         }
-        Answer::Refused(r, cursor) => {
-            let token = seen::take(text, cursor);
+        Answer::Refused(r, at) => {
+            let token = seen::take(text, at);
             let next = token.next;
             if token.sort == CLOSE {
                 Answer::Refused(r, next)
@@ -140,29 +139,24 @@ fn closing(text: &[u8], got: Answer) -> Answer
                 )
             }
         }
-        Answer::Stopped(r, cursor) => Answer::Stopped(r, cursor),
+        Answer::Stopped(r, at) => Answer::Stopped(r, at),
     }
 }
 
 // What follows the part that was read up to `s`: the step of `comma_many` in the Rust.
 fn after_part(text: &[u8], s: State) -> After
-    requires { ⌜ Sound (now text) (s .cursor) ⌝ }
     ensures { λ r. ⌜ Follows (now (text .entry)) s r ⌝ }
 {
-    let cursor = s.cursor;
-    let token = seen::look(text, cursor);
-    let here = token.next;
-    if token.sort == COMMA {
-        let comma = seen::take(text, here);
-        let next = comma.next;
+    let place = scan::skip_blanks(text, s.at);
+    if seen::stands(text, place, b',') {
         After::Comma(State {
-            cursor: next,
+            at: place + 1,
             nodes: s.nodes,
             numbers: s.numbers,
         })
     } else {
         After::Last(State {
-            cursor: here,
+            at: place,
             nodes: s.nodes,
             numbers: s.numbers,
         })
@@ -173,13 +167,13 @@ fn after_part(text: &[u8], s: State) -> After
 fn node(text: &[u8], nodes: &mut [u32], kind: u32, dimension: u32, place: usize, s: State) -> Answer
     ensures { λ r. ⌜ MetNode (now (text .entry)) kind dimension place s (now (nodes .entry)) r (now (nodes .exit)) ⌝ }
 {
-    let cursor = s.cursor;
+    let at = s.at;
     let row = s.nodes;
     let used = s.numbers;
     if row < store::node_room(nodes) {
         store::put_node(nodes, row, kind, dimension, 0);
         Answer::Done(State {
-            cursor,
+            at,
             nodes: row + 1,
             numbers: used,
         })
@@ -189,80 +183,80 @@ fn node(text: &[u8], nodes: &mut [u32], kind: u32, dimension: u32, place: usize,
                 number: NO_NODE_ROW,
                 place,
             },
-            cursor,
+            at,
         )
     }
 }
 
-// `(` or EMPTY.
-fn opener(text: &[u8], kind: u32, dimension: u32, cursor: Cursor) -> Head
-    requires { ⌜ Sound (now text) cursor ⌝ }
-    ensures { λ r. ⌜ MetHead (now (text .entry)) (opener kind dimension) (stream (now (text .entry)) cursor) r ⌝ }
+// `(` or EMPTY, which has to be the token that was found at `at`.
+fn opening(text: &[u8], kind: u32, dimension: u32, at: usize, token: Seen) -> Head
+    requires { ⌜ Takes (now text) at token ⌝ }
+    ensures { λ r. ⌜ MetHead (now (text .entry)) (opener kind dimension) (toks (now (text .entry)) at) r ⌝ }
 {
-    let token = seen::take(text, cursor);
-    let next = token.next;
     if token.sort == OPEN {
-        return Head::Opens(kind, dimension, token.place, next);
+        return Head::Opens(kind, dimension, token.place, token.next);
     }
     if token.sort != WORD {
         return Head::Wrong(
             seen::refusal_at(text, NOT_OPENED, token.sort, token.place),
-            next,
+            token.next,
         );
     }
     let start = token.start;
     let end = start + token.len;
     if names::is_empty_word(&text[start..end]) {
-        Head::Empty(kind, dimension, token.place, next)
+        Head::Empty(kind, dimension, token.place, token.next)
     } else {
         Head::Wrong(
             Refusal {
                 number: NOT_OPENED,
                 place: token.place,
             },
-            next,
+            token.next,
         )
     }
 }
 
-// What follows a bare name: a dimension's word is taken, any other token is only looked at.
-fn header(text: &[u8], kind: u32, cursor: Cursor) -> Head
-    requires { ⌜ Sound (now text) cursor ⌝ }
-    ensures { λ r. ⌜ MetHead (now (text .entry)) (header kind) (stream (now (text .entry)) cursor) r ⌝ }
+// `(` or EMPTY.
+fn opener(text: &[u8], kind: u32, dimension: u32, at: usize) -> Head
+    ensures { λ r. ⌜ MetHead (now (text .entry)) (opener kind dimension) (toks (now (text .entry)) at) r ⌝ }
 {
-    let token = seen::look(text, cursor);
-    let here = token.next;
+    let token = seen::take(text, at);
+    opening(text, kind, dimension, at, token)
+}
+
+// What follows a bare name: a dimension's word is taken, any other token is only looked at.
+fn header(text: &[u8], kind: u32, at: usize) -> Head
+    ensures { λ r. ⌜ MetHead (now (text .entry)) (header kind) (toks (now (text .entry)) at) r ⌝ }
+{
+    let token = seen::take(text, at);
     if token.sort < OPEN {
         return Head::Wrong(
             Refusal {
                 number: NO_HEADER,
                 place: token.place,
             },
-            here,
+            at,
         );
     }
     if token.sort != WORD {
-        return opener(text, kind, DIM_XY, here);
+        return opening(text, kind, DIM_XY, at, token);
     }
     let start = token.start;
     let end = start + token.len;
     let word = &text[start..end];
     match names::ending_of(word) {
-        Ending::Is(dimension) => {
-            let ending = seen::take(text, here);
-            let next = ending.next;
-            opener(text, kind, dimension, next)
-        }
+        Ending::Is(dimension) => opener(text, kind, dimension, token.next),
         Ending::No => {
             if names::is_empty_word(word) {
-                opener(text, kind, DIM_XY, here)
+                opening(text, kind, DIM_XY, at, token)
             } else {
                 Head::Wrong(
                     Refusal {
                         number: UNKNOWN_HEADER,
                         place: token.place,
                     },
-                    here,
+                    at,
                 )
             }
         }
@@ -270,9 +264,8 @@ fn header(text: &[u8], kind: u32, cursor: Cursor) -> Head
 }
 
 // What follows the word at `place` that means `name`.
-fn by_name(text: &[u8], place: usize, name: Name, cursor: Cursor) -> Head
-    requires { ⌜ Sound (now text) cursor ⌝ }
-    ensures { λ r. ⌜ MetHead (now (text .entry)) (byName place name) (stream (now (text .entry)) cursor) r ⌝ }
+fn by_name(text: &[u8], place: usize, name: Name, at: usize) -> Head
+    ensures { λ r. ⌜ MetHead (now (text .entry)) (byName place name) (toks (now (text .entry)) at) r ⌝ }
 {
     match name {
         Name::Unknown => Head::Wrong(
@@ -280,19 +273,18 @@ fn by_name(text: &[u8], place: usize, name: Name, cursor: Cursor) -> Head
                 number: UNKNOWN_NAME,
                 place,
             },
-            cursor,
+            at,
         ),
-        Name::Bare(kind) => header(text, kind, cursor),
-        Name::Joined(kind, dimension) => opener(text, kind, dimension, cursor),
+        Name::Bare(kind) => header(text, kind, at),
+        Name::Joined(kind, dimension) => opener(text, kind, dimension, at),
     }
 }
 
 // The name of a collection's child, and what follows it.
-fn child_head(text: &[u8], cursor: Cursor) -> Head
-    requires { ⌜ Sound (now text) cursor ⌝ }
-    ensures { λ r. ⌜ MetHead (now (text .entry)) childHead (stream (now (text .entry)) cursor) r ⌝ }
+fn child_head(text: &[u8], at: usize) -> Head
+    ensures { λ r. ⌜ MetHead (now (text .entry)) childHead (toks (now (text .entry)) at) r ⌝ }
 {
-    let token = seen::take(text, cursor);
+    let token = seen::take(text, at);
     let next = token.next;
     if token.sort == WORD {
         let start = token.start;
@@ -321,11 +313,10 @@ fn is_ascii(w: &[u8]) -> bool
 }
 
 // The name of the root, and what follows it.
-fn root_head(text: &[u8], cursor: Cursor) -> Head
-    requires { ⌜ Sound (now text) cursor ⌝ }
-    ensures { λ r. ⌜ MetHead (now (text .entry)) rootHead (stream (now (text .entry)) cursor) r ⌝ }
+fn root_head(text: &[u8], at: usize) -> Head
+    ensures { λ r. ⌜ MetHead (now (text .entry)) rootHead (toks (now (text .entry)) at) r ⌝ }
 {
-    let token = seen::take(text, cursor);
+    let token = seen::take(text, at);
     let next = token.next;
     if token.sort != WORD {
         return Head::Wrong(
@@ -406,13 +397,13 @@ fn geometry(
     depth: u32,
     s: State,
 ) -> Answer
-    requires { ⌜ Fits (now text) (now nodes) (now numbers) (at (headCursor head) s) ⌝ }
-    ensures { λ r. ⌜ Reads (now (text .entry)) (geometryOf depth head) (at (headCursor head) s) (now (nodes .entry)) (now (numbers .entry)) r (now (nodes .exit)) (now (numbers .exit)) ⌝ }
+    requires { ⌜ Fits (now text) (now nodes) (now numbers) (onAt (headEnd head) s) ⌝ }
+    ensures { λ r. ⌜ Reads (now (text .entry)) (geometryOf depth head) (onAt (headEnd head) s) (now (nodes .entry)) (now (numbers .entry)) r (now (nodes .exit)) (now (numbers .exit)) ⌝ }
 {
     let rows = s.nodes;
     let used = s.numbers;
     match head {
-        Head::Opens(kind, dimension, place, cursor) => {
+        Head::Opens(kind, dimension, place, at) => {
             if kind == KIND_GEOMETRYCOLLECTION {
                 geometrycollection::collection(
                     text,
@@ -422,7 +413,7 @@ fn geometry(
                     place,
                     depth,
                     State {
-                        cursor,
+                        at,
                         nodes: rows,
                         numbers: used,
                     },
@@ -436,26 +427,26 @@ fn geometry(
                     dimension,
                     place,
                     State {
-                        cursor,
+                        at,
                         nodes: rows,
                         numbers: used,
                     },
                 )
             }
         }
-        Head::Empty(kind, dimension, place, cursor) => node(
+        Head::Empty(kind, dimension, place, at) => node(
             text,
             nodes,
             kind,
             dimension,
             place,
             State {
-                cursor,
+                at,
                 nodes: rows,
                 numbers: used,
             },
         ),
-        Head::Wrong(r, cursor) => Answer::Refused(r, cursor),
+        Head::Wrong(r, at) => Answer::Refused(r, at),
     }
 }
 
@@ -509,8 +500,7 @@ fn read_root(text: &[u8], nodes: &mut [u32], numbers: &mut [u32]) -> ReadAnswer
     requires { ⌜ length (now text) + 2 < 2 ^ 32 ⌝ }
     ensures { λ a. ⌜ Leaves (rootIn (nodeRoom (now (nodes .entry))) (numberRoom (now (numbers .entry))) (now (text .entry))) (now (nodes .entry)) (now (numbers .entry)) a (now (nodes .exit)) (now (numbers .exit)) ⌝ }
 {
-    let cursor = Cursor::new(0);
-    let head = root_head(text, cursor);
+    let head = root_head(text, 0);
     let got = geometry(
         text,
         nodes,
@@ -518,7 +508,7 @@ fn read_root(text: &[u8], nodes: &mut [u32], numbers: &mut [u32]) -> ReadAnswer
         head,
         DEPTH_LIMIT,
         State {
-            cursor,
+            at: 0,
             nodes: 0,
             numbers: 0,
         },

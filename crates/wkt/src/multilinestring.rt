@@ -21,7 +21,7 @@ pub fn in_parens(
     requires { ⌜ Fits (now text) (now nodes) (now numbers) s ⌝ }
     ensures { λ r. ⌜ Reads (now (text .entry)) (openedOf kindMultiLineString dimension place (lineOf dimension)) s (now (nodes .entry)) (now (numbers .entry)) r (now (nodes .exit)) (now (numbers .exit)) ⌝ }
 {
-    let cursor = s.cursor;
+    let at = s.at;
     let row = s.nodes;
     let used = s.numbers;
     if row < store::node_room(nodes) {
@@ -33,7 +33,7 @@ pub fn in_parens(
             row,
             dimension,
             State {
-                cursor,
+                at,
                 nodes: row + 1,
                 numbers: used,
             },
@@ -45,7 +45,7 @@ pub fn in_parens(
                 number: NO_NODE_ROW,
                 place,
             },
-            cursor,
+            at,
         )
     }
 }

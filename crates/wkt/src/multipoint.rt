@@ -24,16 +24,16 @@ fn body(
     requires { ⌜ (row < s .nodes) × Fits (now text) (now nodes) (now numbers) s ⌝ }
     ensures { λ r. ⌜ Reads (now (text .entry)) (listOf row (pointOf dimension)) s (now (nodes .entry)) (now (numbers .entry)) r (now (nodes .exit)) (now (numbers .exit)) ⌝ }
 {
-    let mut at = s;
+    let mut here = s;
     let mut parts: u32 = 0;
     loop {
-        let got = point::with_optional_parens(text, nodes, numbers, dimension, at);
+        let got = point::with_optional_parens(text, nodes, numbers, dimension, here);
         match got {
             Answer::Done(q) => {
                 parts += 1;
                 match after_part(text, q) {
                     After::Comma(next) => {
-                        at = next;
+                        here = next;
                     }
                     After::Last(end) => {
                         store::put_parts(nodes, row, parts);
@@ -63,7 +63,7 @@ pub fn in_parens(
     requires { ⌜ Fits (now text) (now nodes) (now numbers) s ⌝ }
     ensures { λ r. ⌜ Reads (now (text .entry)) (openedOf kindMultiPoint dimension place (pointOf dimension)) s (now (nodes .entry)) (now (numbers .entry)) r (now (nodes .exit)) (now (numbers .exit)) ⌝ }
 {
-    let cursor = s.cursor;
+    let at = s.at;
     let row = s.nodes;
     let used = s.numbers;
     if row < store::node_room(nodes) {
@@ -75,7 +75,7 @@ pub fn in_parens(
             row,
             dimension,
             State {
-                cursor,
+                at,
                 nodes: row + 1,
                 numbers: used,
             },
@@ -87,7 +87,7 @@ pub fn in_parens(
                 number: NO_NODE_ROW,
                 place,
             },
-            cursor,
+            at,
         )
     }
 }

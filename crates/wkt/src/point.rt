@@ -5,7 +5,6 @@ use crate::State;
 use crate::closing;
 use crate::coord::coord;
 use crate::seen;
-use crate::seen::OPEN;
 use names::KIND_POINT;
 use tokenizer::Refusal;
 ghost use Prim.Native.Nat.{_<_};
@@ -47,7 +46,7 @@ pub fn in_parens(
     requires { ⌜ Fits (now text) (now nodes) (now numbers) s ⌝ }
     ensures { λ r. ⌜ Reads (now (text .entry)) (pointInOf dimension place) s (now (nodes .entry)) (now (numbers .entry)) r (now (nodes .exit)) (now (numbers .exit)) ⌝ }
 {
-    let cursor = s.cursor;
+    let at = s.at;
     let row = s.nodes;
     let used = s.numbers;
     if row < store::node_room(nodes) {
@@ -59,7 +58,7 @@ pub fn in_parens(
             row,
             dimension,
             State {
-                cursor,
+                at,
                 nodes: row + 1,
                 numbers: used,
             },
@@ -71,7 +70,7 @@ pub fn in_parens(
                 number: NO_NODE_ROW,
                 place,
             },
-            cursor,
+            at,
         )
     }
 }
@@ -88,7 +87,7 @@ fn bare(
     requires { ⌜ Fits (now text) (now nodes) (now numbers) s ⌝ }
     ensures { λ r. ⌜ Reads (now (text .entry)) (barePointOf dimension place) s (now (nodes .entry)) (now (numbers .entry)) r (now (nodes .exit)) (now (numbers .exit)) ⌝ }
 {
-    let cursor = s.cursor;
+    let at = s.at;
     let row = s.nodes;
     let used = s.numbers;
     if row < store::node_room(nodes) {
@@ -100,7 +99,7 @@ fn bare(
             row,
             dimension,
             State {
-                cursor,
+                at,
                 nodes: row + 1,
                 numbers: used,
             },
@@ -111,7 +110,7 @@ fn bare(
                 number: NO_NODE_ROW,
                 place,
             },
-            cursor,
+            at,
         )
     }
 }
@@ -127,22 +126,19 @@ pub fn with_optional_parens(
     requires { ⌜ Fits (now text) (now nodes) (now numbers) s ⌝ }
     ensures { λ r. ⌜ Reads (now (text .entry)) (pointOf dimension) s (now (nodes .entry)) (now (numbers .entry)) r (now (nodes .exit)) (now (numbers .exit)) ⌝ }
 {
-    let cursor = s.cursor;
+    let at = s.at;
     let row = s.nodes;
     let used = s.numbers;
-    let token = seen::look(text, cursor);
-    let here = token.next;
-    if token.sort == OPEN {
-        let open = seen::take(text, here);
-        let next = open.next;
+    let start = scan::skip_blanks(text, at);
+    if seen::stands(text, start, b'(') {
         in_parens(
             text,
             nodes,
             numbers,
             dimension,
-            open.place,
+            start,
             State {
-                cursor: next,
+                at: start + 1,
                 nodes: row,
                 numbers: used,
             },
@@ -153,9 +149,9 @@ pub fn with_optional_parens(
             nodes,
             numbers,
             dimension,
-            token.place,
+            start,
             State {
-                cursor: here,
+                at: start,
                 nodes: row,
                 numbers: used,
             },

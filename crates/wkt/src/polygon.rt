@@ -26,16 +26,16 @@ pub fn lines(
     requires { ⌜ (row < s .nodes) × Fits (now text) (now nodes) (now numbers) s ⌝ }
     ensures { λ r. ⌜ Reads (now (text .entry)) (listOf row (lineOf dimension)) s (now (nodes .entry)) (now (numbers .entry)) r (now (nodes .exit)) (now (numbers .exit)) ⌝ }
 {
-    let mut at = s;
+    let mut here = s;
     let mut parts: u32 = 0;
     loop {
-        let got = linestring::with_parens(text, nodes, numbers, dimension, at);
+        let got = linestring::with_parens(text, nodes, numbers, dimension, here);
         match got {
             Answer::Done(q) => {
                 parts += 1;
                 match after_part(text, q) {
                     After::Comma(next) => {
-                        at = next;
+                        here = next;
                     }
                     After::Last(end) => {
                         store::put_parts(nodes, row, parts);
@@ -65,7 +65,7 @@ pub fn in_parens(
     requires { ⌜ Fits (now text) (now nodes) (now numbers) s ⌝ }
     ensures { λ r. ⌜ Reads (now (text .entry)) (polygonInOf dimension place) s (now (nodes .entry)) (now (numbers .entry)) r (now (nodes .exit)) (now (numbers .exit)) ⌝ }
 {
-    let cursor = s.cursor;
+    let at = s.at;
     let row = s.nodes;
     let used = s.numbers;
     if row < store::node_room(nodes) {
@@ -77,7 +77,7 @@ pub fn in_parens(
             row,
             dimension,
             State {
-                cursor,
+                at,
                 nodes: row + 1,
                 numbers: used,
             },
@@ -89,7 +89,7 @@ pub fn in_parens(
                 number: NO_NODE_ROW,
                 place,
             },
-            cursor,
+            at,
         )
     }
 }
@@ -105,10 +105,10 @@ pub fn with_parens(
     requires { ⌜ Fits (now text) (now nodes) (now numbers) s ⌝ }
     ensures { λ r. ⌜ Reads (now (text .entry)) (polygonOf dimension) s (now (nodes .entry)) (now (numbers .entry)) r (now (nodes .exit)) (now (numbers .exit)) ⌝ }
 {
-    let cursor = s.cursor;
+    let at = s.at;
     let rows = s.nodes;
     let used = s.numbers;
-    let head = opener(text, KIND_POLYGON, dimension, cursor);
+    let head = opener(text, KIND_POLYGON, dimension, at);
     match head {
         Head::Opens(_, d, p, c) => in_parens(
             text,
@@ -117,7 +117,7 @@ pub fn with_parens(
             d,
             p,
             State {
-                cursor: c,
+                at: c,
                 nodes: rows,
                 numbers: used,
             },
@@ -129,7 +129,7 @@ pub fn with_parens(
             d,
             p,
             State {
-                cursor: c,
+                at: c,
                 nodes: rows,
                 numbers: used,
             },

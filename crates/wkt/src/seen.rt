@@ -1,5 +1,4 @@
 // A token as the grammar asks of it: by its sort, a number.
-use tokenizer::Cursor;
 use tokenizer::Found;
 use tokenizer::Refusal;
 use tokenizer::Token;
@@ -9,10 +8,10 @@ ghost use lib.Dec.{eqb};
 ghost use Rattle.tokenizer.specs.declared.Found.{Found};
 ghost use Rattle.tokenizer.specs.Tokens.{badAt};
 ghost use Rattle.tokenizer.specs.Stream.{tokIn};
-ghost use Rattle.tokenizer.specs.Sound.{Sound, SoundFound};
+ghost use Rattle.tokenizer.specs.Sound.{SoundFound};
 ghost use Rattle.grammar.specs.Tokens.{sortBad};
 ghost use Rattle.grammar.specs.Grammar.{refusal};
-ghost use Rattle.wkt.specs.Seen.{Tells, Takes, Looks};
+ghost use Rattle.wkt.specs.Seen.{Tells, Takes, standsAt};
 
 pub const NONE: u32 = 0;
 
@@ -28,17 +27,17 @@ pub const NUMBER: u32 = 5;
 
 pub const WORD: u32 = 6;
 
-// A token's sort and place, the span of a number's text or of a word, and the cursor to go on with.
+// A token's sort and place, the span of a number's text or of a word, and the place to go on from.
 pub struct Seen {
     pub sort: u32,
     pub place: usize,
     pub start: usize,
     pub len: usize,
-    pub next: Cursor,
+    pub next: usize,
 }
 
 // What is told of a token that was found.
-fn told(text: &[u8], found: Found, next: Cursor) -> Seen
+fn told(text: &[u8], found: Found, next: usize) -> Seen
     requires { ⌜ SoundFound (now text) found ⌝ }
     ensures { λ r. ⌜ Tells (now (text .entry)) (tokIn (now (text .entry)) found) r × (r .next ≡ next) ⌝ }
 {
@@ -97,26 +96,24 @@ fn told(text: &[u8], found: Found, next: Cursor) -> Seen
     }
 }
 
-// The next token, which is passed over.
-pub fn take(text: &[u8], c: Cursor) -> Seen
-    requires { ⌜ Sound (now text) c ⌝ }
-    ensures { λ r. ⌜ Takes (now (text .entry)) c r ⌝ }
+// The token at `at`, after blanks, and the place behind it.
+pub fn take(text: &[u8], at: usize) -> Seen
+    ensures { λ r. ⌜ Takes (now (text .entry)) at r ⌝ }
 {
-    let step = c.take(text);
-    let found = step.found;
-    let next = step.next;
+    let read = tokenizer::read_at(text, at);
+    let found = read.found;
+    let next = read.at;
     told(text, found, next)
 }
 
-// The next token, which comes again.
-pub fn look(text: &[u8], c: Cursor) -> Seen
-    requires { ⌜ Sound (now text) c ⌝ }
-    ensures { λ r. ⌜ Looks (now (text .entry)) c r ⌝ }
+// Whether the byte `b` stands at `place`.
+pub fn stands(text: &[u8], place: usize, b: u8) -> bool
+    ensures { λ r. ⌜ r ≡ standsAt (now (text .entry)) place b ⌝ }
 {
-    let step = c.look(text);
-    let found = step.found;
-    let next = step.next;
-    told(text, found, next)
+    if text.len() <= place {
+        return false;
+    }
+    text[place] == b
 }
 
 // The refusal at a token of `sort` at `place` that was taken and is not the one asked for.

@@ -1,16 +1,28 @@
--- Laws of `sameWord` and `startsWord`: at a place of both words, by their lengths, joined, and that it is sameness of the raised words.
+-- Laws of `upper`, `sameWord` and `startsWord`: at a place of both words, by their lengths, joined, and that it is sameness of the raised words.
 -- Assumes nothing.
 use mathlib.Core.Path.{_≡_, refl, sym, ap, _∙_}
-use mathlib.Core.Bool.{Bool, true, false, _&&_, and-assoc, and-false, _||_, and-eq-true-iff, false≢true, or-true}
+use mathlib.Core.Bool.{Bool, true, false, cond, _&&_, and-assoc, and-false, _||_, and-eq-true-iff, false≢true, or-true}
 use mathlib.Core.List.{List, [], _∷_, _++_, map, head-eq-of-cons-eq, tail-eq-of-cons-eq, nil≢cons, cons≢nil}
-use Prim.Native.Nat.{ℕ, suc, _+_, _≤_, _<_, suc-le-suc}
+use Prim.Native.Nat.{ℕ, suc, _+_, _-_, _≤_, _<_, suc-le-suc}
 use native.Mathlib.Numerals.{add-one}
 use native.Mathlib.Nat.{le-of-suc-le-suc, suc-inj}
 use native.Mathlib.Omega.{arith}
-use borrow.Author.Tests.{eqb-true, eq-eqb}
+use lib.Dec.{leb}
+use borrow.Author.Tests.{leb-true, lt-leb, eqb-true, eq-eqb}
 use lib.ListN.{length, getD, take, drop, drop-of-length-le, length-map}
 use lib.Seq.{drop-cons, take-at, drop-at}
-use Rattle.words.specs.Words.{upper, sameByte, sameWord, startsWord}
+use Rattle.words.specs.Words.{isLower, upper, sameByte, sameWord, startsWord}
+
+-- What is raised stays as it is.
+pub upper-upper : (b : ℕ) → upper (upper b) ≡ upper b
+upper-upper b = go (isLower b) refl
+  where
+    go : (t : Bool) → isLower b ≡ t → upper (cond t (b - 32) b) ≡ cond t (b - 32) b
+    go true e =
+        let low : 97 ≤ b = leb-true 97 b (and-eq-true-iff (leb 97 b) (leb b 122) .0 e .0) in
+        let high : b ≤ 122 = leb-true b 122 (and-eq-true-iff (leb 97 b) (leb b 122) .0 e .1) in
+        rw (lt-leb 97 (b - 32) (omega arith))
+    go false e = rw e
 
 -- At the place i of both words: the test goes on, fails, or has come to the end of the second.
 module _ (l m : List ℕ) (i : ℕ) where

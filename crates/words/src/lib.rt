@@ -1,6 +1,6 @@
 // Words, compared without regard to the case of ASCII letters.
 ghost use mathlib.Core.Path.{_≡_};
-ghost use Rattle.words.specs.Words.{upper, sameWord, startsWord};
+ghost use Rattle.words.specs.Words.{upper, sameByte, sameWord, startsWord};
 
 // How far a lower-case ASCII letter stands above its upper case.
 const CASE_GAP: u8 = b'a' - b'A';
@@ -16,6 +16,21 @@ pub fn to_upper(b: u8) -> u8
     }
 }
 
+// Whether two bytes are the same but for the case of an ASCII letter. Against a fixed byte `b` two comparisons are left of it.
+fn same_byte(a: u8, b: u8) -> bool
+    ensures { λ r. ⌜ r ≡ sameByte a b ⌝ }
+{
+    let raised = to_upper(b);
+    if a == raised {
+        return true;
+    }
+    if (b'a' <= a) & (a <= b'z') {
+        a - CASE_GAP == raised
+    } else {
+        false
+    }
+}
+
 // Whether `w` begins with `name`; no byte after the first that differs is read.
 pub fn starts_with_word(w: &[u8], name: &[u8]) -> bool
     ensures { λ r. ⌜ r ≡ startsWord (now (w .entry)) (now (name .entry)) ⌝ }
@@ -25,10 +40,11 @@ pub fn starts_with_word(w: &[u8], name: &[u8]) -> bool
     }
     let mut i = 0;
     while i < name.len() {
-        if to_upper(w[i]) != to_upper(name[i]) {
+        if same_byte(w[i], name[i]) {
+            i += 1;
+        } else {
             return false;
         }
-        i += 1;
     }
     true
 }

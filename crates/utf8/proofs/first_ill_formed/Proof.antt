@@ -2,11 +2,9 @@
 -- Assumes nothing.
 use mathlib.Core.Path.{_≡_, sym, _∙_}
 use Prim.Native.Nat.{_+_, _-_, _≤_}
-use native.Mathlib.Nat.{zero-add}
 use native.Mathlib.Omega.{arith}
 use lib.ListN.{length}
 use Rattle.scan.specs.Front.{rest}
-use Rattle.scan.proofs.Front.{rest-zero}
 use Rattle.utf8.specs.Utf8.{firstIll}
 use Rattle.utf8.proofs.Walk.{inside, on, on-ascii, stop, past}
 use borrow.Author.Needs.{needs}
@@ -19,8 +17,11 @@ Inv-loop text i₀ i = (i ≤ length text) × (i + firstIll (rest text i) ≡ fi
 abbrev μ-loop : tie.MeasureT-loop
 μ-loop text i₀ i = length text - i
 
+ascii-front-requires : tie.Need-ascii-front-requires Inv-loop μ-loop
+ascii-front-requires c κs = search needs
+
 loop-holds : tie.Need-loop-holds Inv-loop μ-loop
-loop-holds c = (omega arith, rw rest-zero (zero-add _))
+loop-holds c = c .ascii-front .ensures
 
 shared-slice-read-if1 : tie.Need-shared-slice-read-if1 Inv-loop μ-loop
 shared-slice-read-if1 c = search needs
@@ -40,7 +41,7 @@ width-at-requires c κs = search needs
 returns : tie.Need-returns Inv-loop μ-loop
 returns c = stop _ _ (sym (c .if2 .taken) ∙ c .before .width-at .ensures) ∙ c .before .before .before .before .before .loop .inv .1
 
-within : (c : tie.Else2 Inv-loop μ-loop) → c .before .before .before .before .before .loop .i + c .before .width-at .result ≤ length (c .before .before .before .before .before .before .before .args .text .now)
+within : (c : tie.Else2 Inv-loop μ-loop) → c .before .before .before .before .before .loop .i + c .before .width-at .result ≤ length (c .before .before .before .before .before .before .before .before .args .text .now)
 within c = inside _ _ _ (c .before .width-at .ensures) (c .before .before .before .before .before .loop .inv .0)
 
 add-i-2 : tie.Need-add-i-2 Inv-loop μ-loop
@@ -62,6 +63,7 @@ first-ill-formed-spec =
     (tie.spec
     Inv-loop
     μ-loop
+    ascii-front-requires
     loop-holds
     shared-slice-read-if1
     add-i

@@ -24,11 +24,11 @@ use borrow.Author.Needs.{needs}
 use Prim.Native.Nat.{_+_, _*_, _-_, _/_}
 use mathlib.Core.Path.{refl, ap, _∙_}
 use native.Mathlib.Omega.{arith}
-use Rattle.tokenizer.specs.Stream.{size, stream}
+use Rattle.tokenizer.specs.Stream.{size, toks}
 use Rattle.store.specs.Rows.{nodeWidth}
 use Rattle.wkt.specs.Means as means
 use Rattle.wkt.proofs.Parts.{body-room, stop-done}
-use Rattle.wkt.proofs.Lists.{ListInv, list-first, list-room, list-few, list-refused, list-stopped, list-last, list-more, list-less, item-room, item-sound}
+use Rattle.wkt.proofs.Lists.{ListInv, list-first, list-room, list-few, list-refused, list-stopped, list-last, list-more, list-less, item-room}
 use Rattle.wkt.proofs.Geometries.{geometry-collection, geometry-plain, geometry-empty, geometry-wrong, a-child, child-room, collection-deep, collection-full, collection-done}
 
 abbrev μ-geometry : Measures 3 geometry-kinds.ps ℕ
@@ -112,12 +112,12 @@ geometry-returns-4 : (t : ℕ) → geometry-lts.Need-returns-4 (geometry-claims 
 geometry-returns-4 t c = geometry-wrong _ (c .before .before .before .before .before .before .args .s) (c .before .before .before .before .before .before .pre .1) (c .before .head3 .given .1)
 
 abbrev geometrycollection·collection-Inv-loop : geometrycollection·collection-lts.InvT-loop
-geometrycollection·collection-Inv-loop text nodes₀ numbers₀ dimension place depth row used at₀ parts₀ nodes numbers at parts =
-    ListInv text row (means.childOf (depth - 1)) nodes₀ numbers₀ at₀ nodes numbers parts at
+geometrycollection·collection-Inv-loop text nodes₀ numbers₀ dimension place depth at row used here₀ parts₀ nodes numbers here parts =
+    ListInv text row (means.childOf (depth - 1)) nodes₀ numbers₀ here₀ nodes numbers parts here
 
 abbrev geometrycollection·collection-μ-loop : geometrycollection·collection-lts.MeasureT-loop
-geometrycollection·collection-μ-loop text nodes₀ numbers₀ dimension place depth row used at₀ parts₀ nodes numbers at parts =
-    size (stream text (at .cursor))
+geometrycollection·collection-μ-loop text nodes₀ numbers₀ dimension place depth at row used here₀ parts₀ nodes numbers here parts =
+    size (toks text (here .at))
 
 abbrev collection-claims : ℕ → geometrycollection·collection-lts.Claims
 collection-claims t = (geometrycollection·collection-claims t)
@@ -220,11 +220,11 @@ geometrycollection·collection-put-node-requires :
     geometrycollection·collection-μ-loop
 geometrycollection·collection-put-node-requires t c κs = search needs
 
-geometrycollection·collection-add-t25 : (t : ℕ) → geometrycollection·collection-lts.Need-add-t25 (collection-claims t) (geometrycollection·collection-at t)
+geometrycollection·collection-add-t24 : (t : ℕ) → geometrycollection·collection-lts.Need-add-t24 (collection-claims t) (geometrycollection·collection-at t)
     geometrycollection·collection.Post
     geometrycollection·collection-Inv-loop
     geometrycollection·collection-μ-loop
-geometrycollection·collection-add-t25 t c = search needs
+geometrycollection·collection-add-t24 t c = search needs
 
 geometrycollection·collection-loop-holds :
     (t : ℕ) → geometrycollection·collection-lts.Need-loop-holds (
@@ -248,7 +248,7 @@ geometrycollection·collection-loop-holds :
     geometrycollection·collection-Inv-loop
     geometrycollection·collection-μ-loop
 geometrycollection·collection-loop-holds t c =
-    list-first (omega arith) (body-room (c .before .before .before .before .before .before .before .before .before .before .before .before .pre .1) (rw (c .before .before .before .before .before .node-room .ensures) at (c .before .before .before .before .if2 .left)) (ap (λ (k : ℕ). k / nodeWidth) (c .before .before .put-node .kept .0)))
+    list-first (omega arith) (body-room (c .before .before .before .before .before .before .before .before .before .before .before .pre .1) (rw (c .before .before .before .before .before .node-room .ensures) at (c .before .before .before .before .if2 .left)) (ap (λ (k : ℕ). k / nodeWidth) (c .before .before .put-node .kept .0)))
 
 geometrycollection·collection-child-head-requires :
     (t : ℕ) → geometrycollection·collection-lts.Need-child-head-requires (
@@ -271,7 +271,7 @@ geometrycollection·collection-child-head-requires :
     geometrycollection·collection.Post
     geometrycollection·collection-Inv-loop
     geometrycollection·collection-μ-loop
-geometrycollection·collection-child-head-requires t c κs = list-room (c .before .loop .inv) .sound
+geometrycollection·collection-child-head-requires t c κs = search needs
 
 geometrycollection·collection-sub-geometry :
     (t : ℕ) → geometrycollection·collection-lts.Need-sub-geometry (
@@ -318,7 +318,7 @@ geometrycollection·collection-geometry-requires :
     geometrycollection·collection-Inv-loop
     geometrycollection·collection-μ-loop
 geometrycollection·collection-geometry-requires t c κs =
-    (omega (arith, c .before .before .before .before .before .before .before .before .before .before .before .before .before .before .before .before .before .pre .0, c .before .before .before .before .before .before .before .before .before .before .before .before .if1 .left), child-room (list-room (c .before .before .before .before .loop .inv)) (c .before .before .child-head .ensures))
+    (omega (arith, c .before .before .before .before .before .before .before .before .before .before .before .before .before .before .before .pre .0, c .before .before .before .before .before .before .before .before .before .before .before .if1 .left), child-room (list-room (c .before .before .before .loop .inv)) (c .before .before .child-head .ensures))
 
 geometrycollection·collection-enum-known-got :
     (t : ℕ) → geometrycollection·collection-lts.Need-enum-known-got (
@@ -364,7 +364,7 @@ geometrycollection·collection-add-parts :
     geometrycollection·collection.Post
     geometrycollection·collection-Inv-loop
     geometrycollection·collection-μ-loop
-geometrycollection·collection-add-parts t c = omega (arith, list-few (c .before .before .before .before .before .before .before .before .before .before .before .before .loop .inv))
+geometrycollection·collection-add-parts t c = omega (arith, list-few (c .before .before .before .before .before .before .before .before .before .before .before .loop .inv))
 
 geometrycollection·collection-after-part-requires :
     (t : ℕ) → geometrycollection·collection-lts.Need-after-part-requires (
@@ -387,7 +387,7 @@ geometrycollection·collection-after-part-requires :
     geometrycollection·collection.Post
     geometrycollection·collection-Inv-loop
     geometrycollection·collection-μ-loop
-geometrycollection·collection-after-part-requires t c κs = item-room (c .before .before .before .before .before .before .before .geometry .ensures) (c .before .got .given .1) .sound
+geometrycollection·collection-after-part-requires t c κs = search needs
 
 geometrycollection·collection-enum-known-next :
     (t : ℕ) → geometrycollection·collection-lts.Need-enum-known-next (
@@ -434,7 +434,7 @@ geometrycollection·collection-loop-less :
     geometrycollection·collection-Inv-loop
     geometrycollection·collection-μ-loop
 geometrycollection·collection-loop-less t c =
-    list-less (c .before .before .before .before .before .before .before .before .before .before .before .before .before .before .before .before .loop .inv) (a-child _ (c .before .before .before .before .before .before .before .before .before .before .before .before .before .before .child-head .ensures) (c .before .before .before .before .before .before .before .before .before .before .before .geometry .ensures)) (c .before .before .before .before .before .got .given .1) (rw (c .before .next .given .1) at (c .before .before .before .after-part .ensures))
+    list-less (c .before .before .before .before .before .before .before .before .before .before .before .before .before .before .before .loop .inv) (a-child _ (c .before .before .before .before .before .before .before .before .before .before .before .before .before .before .child-head .ensures) (c .before .before .before .before .before .before .before .before .before .before .before .geometry .ensures)) (c .before .before .before .before .before .got .given .1) (rw (c .before .next .given .1) at (c .before .before .before .after-part .ensures))
 
 geometrycollection·collection-loop-again :
     (t : ℕ) → geometrycollection·collection-lts.Need-loop-again (
@@ -458,7 +458,7 @@ geometrycollection·collection-loop-again :
     geometrycollection·collection-Inv-loop
     geometrycollection·collection-μ-loop
 geometrycollection·collection-loop-again t c =
-    list-more (c .before .before .before .before .before .before .before .before .before .before .before .before .before .before .before .before .loop .inv) (a-child _ (c .before .before .before .before .before .before .before .before .before .before .before .before .before .before .child-head .ensures) (c .before .before .before .before .before .before .before .before .before .before .before .geometry .ensures)) (c .before .before .before .before .before .got .given .1) (rw (c .before .next .given .1) at (c .before .before .before .after-part .ensures)) (c .before .before .before .before .before .before .before .before .before .before .before .geometry .kept .1 .0) (c .before .before .before .before .before .before .before .before .before .before .before .geometry .kept .1 .1 .0)
+    list-more (c .before .before .before .before .before .before .before .before .before .before .before .before .before .before .before .loop .inv) (a-child _ (c .before .before .before .before .before .before .before .before .before .before .before .before .before .before .child-head .ensures) (c .before .before .before .before .before .before .before .before .before .before .before .geometry .ensures)) (c .before .before .before .before .before .got .given .1) (rw (c .before .next .given .1) at (c .before .before .before .after-part .ensures)) (c .before .before .before .before .before .before .before .before .before .before .before .geometry .kept .1 .0) (c .before .before .before .before .before .before .before .before .before .before .before .geometry .kept .1 .1 .0)
 
 geometrycollection·collection-enum-known-end :
     (t : ℕ) → geometrycollection·collection-lts.Need-enum-known-end (
@@ -527,7 +527,7 @@ geometrycollection·collection-closing-requires :
     geometrycollection·collection.Post
     geometrycollection·collection-Inv-loop
     geometrycollection·collection-μ-loop
-geometrycollection·collection-closing-requires t c κs = (rw (c .before .before .before .before .before .end .given .1) at (c .before .before .before .before .before .before .before .after-part .ensures)) .sound
+geometrycollection·collection-closing-requires t c κs = search needs
 
 geometrycollection·collection-same-length-2 :
     (t : ℕ) → geometrycollection·collection-lts.Need-same-length-2 (
@@ -551,7 +551,7 @@ geometrycollection·collection-same-length-2 :
     geometrycollection·collection-Inv-loop
     geometrycollection·collection-μ-loop
 geometrycollection·collection-same-length-2 t c =
-    c .before .before .before .put-parts .kept .0 ∙ c .before .before .before .before .before .before .before .before .before .before .before .before .before .before .before .before .geometry .kept .1 .0 ∙ c .before .before .before .before .before .before .before .before .before .before .before .before .before .before .before .before .before .before .before .before .before .loop .inv .sameN ∙ c .before .before .before .before .before .before .before .before .before .before .before .before .before .before .before .before .before .before .before .before .before .before .before .before .put-node .kept .0
+    c .before .before .before .put-parts .kept .0 ∙ c .before .before .before .before .before .before .before .before .before .before .before .before .before .before .before .before .geometry .kept .1 .0 ∙ c .before .before .before .before .before .before .before .before .before .before .before .before .before .before .before .before .before .before .before .before .loop .inv .sameN ∙ c .before .before .before .before .before .before .before .before .before .before .before .before .before .before .before .before .before .before .before .before .before .before .before .put-node .kept .0
 
 geometrycollection·collection-same-length-3 :
     (t : ℕ) → geometrycollection·collection-lts.Need-same-length-3 (
@@ -574,7 +574,7 @@ geometrycollection·collection-same-length-3 :
     geometrycollection·collection.Post
     geometrycollection·collection-Inv-loop
     geometrycollection·collection-μ-loop
-geometrycollection·collection-same-length-3 t c = c .before .before .before .before .before .before .before .before .before .before .before .before .before .before .before .before .geometry .kept .1 .1 .0 ∙ c .before .before .before .before .before .before .before .before .before .before .before .before .before .before .before .before .before .before .before .before .before .loop .inv .sameM
+geometrycollection·collection-same-length-3 t c = c .before .before .before .before .before .before .before .before .before .before .before .before .before .before .before .before .geometry .kept .1 .1 .0 ∙ c .before .before .before .before .before .before .before .before .before .before .before .before .before .before .before .before .before .before .before .before .loop .inv .sameM
 
 geometrycollection·collection-returns-3 :
     (t : ℕ) → geometrycollection·collection-lts.Need-returns-3 (
@@ -598,8 +598,8 @@ geometrycollection·collection-returns-3 :
     geometrycollection·collection-Inv-loop
     geometrycollection·collection-μ-loop
 geometrycollection·collection-returns-3 t c =
-    collection-done _ _ _ (c .before .before .before .before .before .before .before .before .before .before .before .before .before .before .before .before .before .before .before .before .before .before .before .before .before .before .before .before .before .if1 .left) (rw (c .before .before .before .before .before .before .before .before .before .before .before .before .before .before .before .before .before .before .before .before .before .before .before .before .before .before .before .node-room .ensures) at (c .before .before .before .before .before .before .before .before .before .before .before .before .before .before .before .before .before .before .before .before .before .before .before .before .before .before .if2 .left)) (c .before .before .before .before .before .before .before .before .before .before .before .before .before .before .before .before .before .before .before .before .before .before .before .before .put-node .ensures) (c .before .before .before .before .before .before .before .before .before .before .before .before .before .before .before .before .before .before .before .before .before .before .before .before .put-node .kept .0)
-    (list-last (c .before .before .before .before .before .before .before .before .before .before .before .before .before .before .before .before .before .before .before .before .before .loop .inv) (a-child _ (c .before .before .before .before .before .before .before .before .before .before .before .before .before .before .before .before .before .before .before .child-head .ensures) (c .before .before .before .before .before .before .before .before .before .before .before .before .before .before .before .before .geometry .ensures)) (c .before .before .before .before .before .before .before .before .before .before .got .given .1) (rw (c .before .before .before .before .before .before .end .given .1) at (c .before .before .before .before .before .before .before .before .after-part .ensures)) (c .before .before .before .before .before .before .before .before .before .before .before .before .before .before .before .before .geometry .kept .1 .0) (c .before .before .before .put-parts .ensures))
+    collection-done _ _ _ (c .before .before .before .before .before .before .before .before .before .before .before .before .before .before .before .before .before .before .before .before .before .before .before .before .before .before .before .before .if1 .left) (rw (c .before .before .before .before .before .before .before .before .before .before .before .before .before .before .before .before .before .before .before .before .before .before .before .before .before .before .node-room .ensures) at (c .before .before .before .before .before .before .before .before .before .before .before .before .before .before .before .before .before .before .before .before .before .before .before .before .before .if2 .left)) (c .before .before .before .before .before .before .before .before .before .before .before .before .before .before .before .before .before .before .before .before .before .before .before .put-node .ensures) (c .before .before .before .before .before .before .before .before .before .before .before .before .before .before .before .before .before .before .before .before .before .before .before .put-node .kept .0)
+    (list-last (c .before .before .before .before .before .before .before .before .before .before .before .before .before .before .before .before .before .before .before .before .loop .inv) (a-child _ (c .before .before .before .before .before .before .before .before .before .before .before .before .before .before .before .before .before .before .before .child-head .ensures) (c .before .before .before .before .before .before .before .before .before .before .before .before .before .before .before .before .geometry .ensures)) (c .before .before .before .before .before .before .before .before .before .before .got .given .1) (rw (c .before .before .before .before .before .before .end .given .1) at (c .before .before .before .before .before .before .before .before .after-part .ensures)) (c .before .before .before .before .before .before .before .before .before .before .before .before .before .before .before .before .geometry .kept .1 .0) (c .before .before .before .put-parts .ensures))
     (c .closing .ensures)
 
 geometrycollection·collection-enum-known-got-2 :
@@ -646,7 +646,7 @@ geometrycollection·collection-closing-requires-2 :
     geometrycollection·collection.Post
     geometrycollection·collection-Inv-loop
     geometrycollection·collection-μ-loop
-geometrycollection·collection-closing-requires-2 t c κs = item-sound (c .before .before .before .before .before .before .before .geometry .ensures) (c .before .got2 .given .1)
+geometrycollection·collection-closing-requires-2 t c κs = search needs
 
 geometrycollection·collection-same-length-4 :
     (t : ℕ) → geometrycollection·collection-lts.Need-same-length-4 (
@@ -669,7 +669,7 @@ geometrycollection·collection-same-length-4 :
     geometrycollection·collection.Post
     geometrycollection·collection-Inv-loop
     geometrycollection·collection-μ-loop
-geometrycollection·collection-same-length-4 t c = c .before .before .before .before .before .before .before .before .geometry .kept .1 .0 ∙ c .before .before .before .before .before .before .before .before .before .before .before .before .before .loop .inv .sameN ∙ c .before .before .before .before .before .before .before .before .before .before .before .before .before .before .before .before .put-node .kept .0
+geometrycollection·collection-same-length-4 t c = c .before .before .before .before .before .before .before .before .geometry .kept .1 .0 ∙ c .before .before .before .before .before .before .before .before .before .before .before .before .loop .inv .sameN ∙ c .before .before .before .before .before .before .before .before .before .before .before .before .before .before .before .put-node .kept .0
 
 geometrycollection·collection-same-length-5 :
     (t : ℕ) → geometrycollection·collection-lts.Need-same-length-5 (
@@ -692,7 +692,7 @@ geometrycollection·collection-same-length-5 :
     geometrycollection·collection.Post
     geometrycollection·collection-Inv-loop
     geometrycollection·collection-μ-loop
-geometrycollection·collection-same-length-5 t c = c .before .before .before .before .before .before .before .before .geometry .kept .1 .1 .0 ∙ c .before .before .before .before .before .before .before .before .before .before .before .before .before .loop .inv .sameM
+geometrycollection·collection-same-length-5 t c = c .before .before .before .before .before .before .before .before .geometry .kept .1 .1 .0 ∙ c .before .before .before .before .before .before .before .before .before .before .before .before .loop .inv .sameM
 
 geometrycollection·collection-returns-4 :
     (t : ℕ) → geometrycollection·collection-lts.Need-returns-4 (
@@ -716,8 +716,8 @@ geometrycollection·collection-returns-4 :
     geometrycollection·collection-Inv-loop
     geometrycollection·collection-μ-loop
 geometrycollection·collection-returns-4 t c =
-    collection-done _ _ _ (c .before .before .before .before .before .before .before .before .before .before .before .before .before .before .before .before .before .before .before .before .before .if1 .left) (rw (c .before .before .before .before .before .before .before .before .before .before .before .before .before .before .before .before .before .before .before .node-room .ensures) at (c .before .before .before .before .before .before .before .before .before .before .before .before .before .before .before .before .before .before .if2 .left)) (c .before .before .before .before .before .before .before .before .before .before .before .before .before .before .before .before .put-node .ensures) (c .before .before .before .before .before .before .before .before .before .before .before .before .before .before .before .before .put-node .kept .0)
-    (list-refused (c .before .before .before .before .before .before .before .before .before .before .before .before .before .loop .inv) (a-child _ (c .before .before .before .before .before .before .before .before .before .before .before .child-head .ensures) (c .before .before .before .before .before .before .before .before .geometry .ensures)) (c .before .before .got2 .given .1))
+    collection-done _ _ _ (c .before .before .before .before .before .before .before .before .before .before .before .before .before .before .before .before .before .before .before .before .if1 .left) (rw (c .before .before .before .before .before .before .before .before .before .before .before .before .before .before .before .before .before .before .node-room .ensures) at (c .before .before .before .before .before .before .before .before .before .before .before .before .before .before .before .before .before .if2 .left)) (c .before .before .before .before .before .before .before .before .before .before .before .before .before .before .before .put-node .ensures) (c .before .before .before .before .before .before .before .before .before .before .before .before .before .before .before .put-node .kept .0)
+    (list-refused (c .before .before .before .before .before .before .before .before .before .before .before .before .loop .inv) (a-child _ (c .before .before .before .before .before .before .before .before .before .before .before .child-head .ensures) (c .before .before .before .before .before .before .before .before .geometry .ensures)) (c .before .before .got2 .given .1))
     (c .closing2 .ensures)
 
 geometrycollection·collection-enum-known-got-3 :
@@ -764,7 +764,7 @@ geometrycollection·collection-same-length-6 :
     geometrycollection·collection.Post
     geometrycollection·collection-Inv-loop
     geometrycollection·collection-μ-loop
-geometrycollection·collection-same-length-6 t c = c .before .before .before .before .before .before .before .geometry .kept .1 .0 ∙ c .before .before .before .before .before .before .before .before .before .before .before .before .loop .inv .sameN ∙ c .before .before .before .before .before .before .before .before .before .before .before .before .before .before .before .put-node .kept .0
+geometrycollection·collection-same-length-6 t c = c .before .before .before .before .before .before .before .geometry .kept .1 .0 ∙ c .before .before .before .before .before .before .before .before .before .before .before .loop .inv .sameN ∙ c .before .before .before .before .before .before .before .before .before .before .before .before .before .before .put-node .kept .0
 
 geometrycollection·collection-same-length-7 :
     (t : ℕ) → geometrycollection·collection-lts.Need-same-length-7 (
@@ -787,7 +787,7 @@ geometrycollection·collection-same-length-7 :
     geometrycollection·collection.Post
     geometrycollection·collection-Inv-loop
     geometrycollection·collection-μ-loop
-geometrycollection·collection-same-length-7 t c = c .before .before .before .before .before .before .before .geometry .kept .1 .1 .0 ∙ c .before .before .before .before .before .before .before .before .before .before .before .before .loop .inv .sameM
+geometrycollection·collection-same-length-7 t c = c .before .before .before .before .before .before .before .geometry .kept .1 .1 .0 ∙ c .before .before .before .before .before .before .before .before .before .before .before .loop .inv .sameM
 
 geometrycollection·collection-returns-5 :
     (t : ℕ) → geometrycollection·collection-lts.Need-returns-5 (
@@ -811,8 +811,8 @@ geometrycollection·collection-returns-5 :
     geometrycollection·collection-Inv-loop
     geometrycollection·collection-μ-loop
 geometrycollection·collection-returns-5 t c =
-    collection-done _ _ _ (c .before .before .before .before .before .before .before .before .before .before .before .before .before .before .before .before .before .before .before .before .if1 .left) (rw (c .before .before .before .before .before .before .before .before .before .before .before .before .before .before .before .before .before .before .node-room .ensures) at (c .before .before .before .before .before .before .before .before .before .before .before .before .before .before .before .before .before .if2 .left)) (c .before .before .before .before .before .before .before .before .before .before .before .before .before .before .before .put-node .ensures) (c .before .before .before .before .before .before .before .before .before .before .before .before .before .before .before .put-node .kept .0)
-    (list-stopped (c .before .before .before .before .before .before .before .before .before .before .before .before .loop .inv) (a-child _ (c .before .before .before .before .before .before .before .before .before .before .child-head .ensures) (c .before .before .before .before .before .before .before .geometry .ensures)) (c .before .got3 .given .1))
+    collection-done _ _ _ (c .before .before .before .before .before .before .before .before .before .before .before .before .before .before .before .before .before .before .before .if1 .left) (rw (c .before .before .before .before .before .before .before .before .before .before .before .before .before .before .before .before .before .node-room .ensures) at (c .before .before .before .before .before .before .before .before .before .before .before .before .before .before .before .before .if2 .left)) (c .before .before .before .before .before .before .before .before .before .before .before .before .before .before .put-node .ensures) (c .before .before .before .before .before .before .before .before .before .before .before .before .before .before .put-node .kept .0)
+    (list-stopped (c .before .before .before .before .before .before .before .before .before .before .before .loop .inv) (a-child _ (c .before .before .before .before .before .before .before .before .before .before .child-head .ensures) (c .before .before .before .before .before .before .before .geometry .ensures)) (c .before .got3 .given .1))
     (stop-done refl)
 
 pub +geometry+geometrycollection·collection-spec : {M : Type 1} → statement M
@@ -843,7 +843,7 @@ pub +geometry+geometrycollection·collection-spec : {M : Type 1} → statement M
     (geometrycollection·collection-same-length t)
     (geometrycollection·collection-returns-2 t)
     (geometrycollection·collection-put-node-requires t)
-    (geometrycollection·collection-add-t25 t)
+    (geometrycollection·collection-add-t24 t)
     (geometrycollection·collection-loop-holds t)
     (geometrycollection·collection-child-head-requires t)
     (geometrycollection·collection-sub-geometry t)

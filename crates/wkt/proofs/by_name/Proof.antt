@@ -21,7 +21,7 @@ opener-requires : tie.Need-opener-requires
 opener-requires c κs = search needs
 
 returns : tie.Need-returns
-returns c = rw (c .enum-told .given .1) (record { is = run-ret _ _; sound = c .before .before .before .pre })
+returns c = rw (c .enum-told .given .1) (record { is = run-ret _ _ })
 
 returns-2 : tie.Need-returns-2
 returns-2 c = rw (c .before .before .name .given .1) (c .header .ensures)

@@ -28,15 +28,13 @@ by-name-requires : tie.Need-by-name-requires
 by-name-requires c κs = search needs
 
 returns : tie.Need-returns
-returns c =
-    let x = c .before .before .before .before .before .before .before .take .ensures in
-    child-word x (c .before .before .before .before .if1 .taken) (told-word meaning (x .first) (c .before .name-of .ensures)) (c .by-name .ensures)
+returns c = let x = c .before .before .before .before .before .before .take .ensures in child-word x (c .before .before .before .before .if1 .taken) (told-word meaning (x .first) (c .before .name-of .ensures)) (c .by-name .ensures)
 
 refusal-at-requires : tie.Need-refusal-at-requires
 refusal-at-requires c κs = search needs
 
 returns-2 : tie.Need-returns-2
-returns-2 c = child-no (c .before .before .before .before .take .ensures) (c .before .if1 .left) (c .refusal-at .ensures)
+returns-2 c = child-no (c .before .before .before .take .ensures) (c .before .if1 .left) (c .refusal-at .ensures)
 
 pub child-head-spec : {M : Type 1} → statement M
 child-head-spec =

@@ -3,21 +3,17 @@
 use borrow.Author.Needs.{needs}
 use Rattle.wkt.proofs.read_root.Statement.{statement}
 use Rattle.wkt.proofs.read_root.Tie as tie
-use Rattle.tokenizer.proofs.Sound.{new-sound}
 use Rattle.wkt.proofs.Whole.{root-within, root-left}
 
-new-requires : tie.Need-new-requires
-new-requires c κs = search needs
-
 root-head-requires : tie.Need-root-head-requires
-root-head-requires c κs = rw (c .new .ensures) (new-sound _ 0)
+root-head-requires c κs = search needs
 
 geometry-requires : tie.Need-geometry-requires
 geometry-requires c κs = search needs
 
 finish-requires : tie.Need-finish-requires
 finish-requires c κs =
-    root-within (c .before .before .before .before .before .before .before .before .before .before .new .ensures) (c .before .before .before .before .before .before .before .before .before .root-head .ensures) (c .before .before .before .before .before .before .geometry .ensures) (c .before .before .before .before .before .before .geometry .kept .1 .0) (c .before .before .before .before .before .before .geometry .kept .1 .1 .0)
+    root-within (c .before .before .before .before .before .before .before .before .before .root-head .ensures) (c .before .before .before .before .before .before .geometry .ensures) (c .before .before .before .before .before .before .geometry .kept .1 .0) (c .before .before .before .before .before .before .geometry .kept .1 .1 .0)
 
 same-length : tie.Need-same-length
 same-length c = search needs
@@ -27,13 +23,12 @@ same-length-2 c = search needs
 
 returns : tie.Need-returns
 returns c =
-    root-left (c .before .before .before .before .before .before .before .before .before .before .before .before .before .before .before .new .ensures) (c .before .before .before .before .before .before .before .before .before .before .before .before .before .before .root-head .ensures) (c .before .before .before .before .before .before .before .before .before .before .before .geometry .ensures) (c .before .before .before .before .before .before .before .before .before .before .before .geometry .kept .1 .0) (c .before .before .before .before .before .before .before .before .before .before .before .geometry .kept .1 .1 .0) (c .before .before .before .before .finish .ensures)
+    root-left (c .before .before .before .before .before .before .before .before .before .before .before .before .before .before .root-head .ensures) (c .before .before .before .before .before .before .before .before .before .before .before .geometry .ensures) (c .before .before .before .before .before .before .before .before .before .before .before .geometry .kept .1 .0) (c .before .before .before .before .before .before .before .before .before .before .before .geometry .kept .1 .1 .0) (c .before .before .before .before .finish .ensures)
 
 pub read-root-spec : {M : Type 1} → statement M
 read-root-spec =
     tie.close
     (tie.spec
-    new-requires
     root-head-requires
     geometry-requires
     finish-requires

@@ -16,7 +16,7 @@ refusal-at-requires : tie.Need-refusal-at-requires
 refusal-at-requires c κs = search needs
 
 returns : tie.Need-returns
-returns c = root-no (c .before .before .before .before .take .ensures) (c .before .if1 .taken) (c .refusal-at .ensures)
+returns c = root-no (c .before .before .before .take .ensures) (c .before .if1 .taken) (c .refusal-at .ensures)
 
 add-end : tie.Need-add-end
 add-end c = search needs
@@ -40,14 +40,10 @@ by-name-requires : tie.Need-by-name-requires
 by-name-requires c κs = search needs
 
 returns-2 : tie.Need-returns-2
-returns-2 c =
-    let x = c .before .before .before .before .before .before .before .before .before .take .ensures in
-    root-word x (c .before .before .before .before .before .before .if1 .left) (sym (told-word (every isAscii) (x .first) (c .before .before .before .is-ascii .ensures)) ∙ c .before .before .if2 .taken) (told-word meaning (x .first) (c .before .name-of .ensures)) (c .by-name .ensures)
+returns-2 c = let x = c .before .before .before .before .before .before .before .before .take .ensures in root-word x (c .before .before .before .before .before .before .if1 .left) (sym (told-word (every isAscii) (x .first) (c .before .before .before .is-ascii .ensures)) ∙ c .before .before .if2 .taken) (told-word meaning (x .first) (c .before .name-of .ensures)) (c .by-name .ensures)
 
 returns-3 : tie.Need-returns-3
-returns-3 c =
-    let x = c .before .before .before .before .before .before .before .take .ensures in
-    root-wide x (c .before .before .before .before .if1 .left) (sym (told-word (every isAscii) (x .first) (c .before .is-ascii .ensures)) ∙ c .if2 .left)
+returns-3 c = let x = c .before .before .before .before .before .before .take .ensures in root-wide x (c .before .before .before .before .if1 .left) (sym (told-word (every isAscii) (x .first) (c .before .is-ascii .ensures)) ∙ c .if2 .left)
 
 pub root-head-spec : {M : Type 1} → statement M
 root-head-spec =

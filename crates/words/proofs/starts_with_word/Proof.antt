@@ -1,8 +1,7 @@
 -- `words::starts_with_word` meets its contract. The loop's invariant: what is left of both words from `i` on decides.
 -- Assumes nothing.
 use borrow.Author.Needs.{needs}
-use borrow.Author.Tests.{eq-eqb, ne-eqb}
-use mathlib.Core.Path.{_≡_, refl, _∙_}
+use mathlib.Core.Path.{_≡_, refl, sym, _∙_}
 use Prim.Native.Nat.{_-_, _≤_}
 use lib.ListN.{length, drop}
 use Rattle.words.specs.Words.{startsWord}
@@ -22,22 +21,14 @@ returns c = too-short _ _ (c .if1 .taken)
 loop-holds : tie.Need-loop-holds Inv-loop μ-loop
 loop-holds c = (c .if1 .left, refl)
 
-shared-slice-read-to-upper : tie.Need-shared-slice-read-to-upper Inv-loop μ-loop
-shared-slice-read-to-upper c = search needs
+shared-slice-read-same-byte : tie.Need-shared-slice-read-same-byte Inv-loop μ-loop
+shared-slice-read-same-byte c = search needs
 
-to-upper-requires : tie.Need-to-upper-requires Inv-loop μ-loop
-to-upper-requires c κs = search needs
+shared-slice-read-same-byte-2 : tie.Need-shared-slice-read-same-byte-2 Inv-loop μ-loop
+shared-slice-read-same-byte-2 c = search needs
 
-shared-slice-read-to-upper-2 : tie.Need-shared-slice-read-to-upper-2 Inv-loop μ-loop
-shared-slice-read-to-upper-2 c = search needs
-
-to-upper-requires-2 : tie.Need-to-upper-requires-2 Inv-loop μ-loop
-to-upper-requires-2 c κs = search needs
-
-returns-2 : tie.Need-returns-2 Inv-loop μ-loop
-returns-2 c =
-    let at = c .before .before .before .before .before .before .loop in
-    starts-off _ _ (at .i) (search needs) (search needs) (rw (← c .before .before .before .to-upper .ensures, ← c .before .to-upper2 .ensures) (ne-eqb _ _ (c .if2 .taken))) ∙ at .inv .1
+same-byte-requires : tie.Need-same-byte-requires Inv-loop μ-loop
+same-byte-requires c κs = search needs
 
 add-i : tie.Need-add-i Inv-loop μ-loop
 add-i c = search needs
@@ -47,8 +38,13 @@ loop-less c = search needs
 
 loop-again : tie.Need-loop-again Inv-loop μ-loop
 loop-again c =
-    let at = c .before .before .before .before .before .before .loop in
-    (at .inv .0, starts-on _ _ (at .i) (search needs) (search needs) (rw (← c .before .before .before .to-upper .ensures, ← c .before .to-upper2 .ensures) (eq-eqb _ _ (c .if2 .left))) ∙ at .inv .1)
+    let at = c .before .before .before .before .before .loop in
+    (at .inv .0, starts-on _ _ (at .i) (search needs) (search needs) (sym (c .before .same-byte .ensures) ∙ c .if2 .taken) ∙ at .inv .1)
+
+returns-2 : tie.Need-returns-2 Inv-loop μ-loop
+returns-2 c =
+    let at = c .before .before .before .before .before .loop in
+    starts-off _ _ (at .i) (search needs) (search needs) (sym (c .before .same-byte .ensures) ∙ c .if2 .left) ∙ at .inv .1
 
 returns-3 : tie.Need-returns-3 Inv-loop μ-loop
 returns-3 c = starts-end _ _ (c .before .loop .i) (search needs) ∙ c .before .loop .inv .1
@@ -61,12 +57,11 @@ starts-with-word-spec =
     μ-loop
     returns
     loop-holds
-    shared-slice-read-to-upper
-    to-upper-requires
-    shared-slice-read-to-upper-2
-    to-upper-requires-2
-    returns-2
+    shared-slice-read-same-byte
+    shared-slice-read-same-byte-2
+    same-byte-requires
     add-i
     loop-less
     loop-again
+    returns-2
     returns-3)

@@ -3,44 +3,42 @@
 use borrow.Author.Needs.{needs}
 use Rattle.wkt.proofs.coord.coord.Statement.{statement}
 use Rattle.wkt.proofs.coord.coord.Tie as tie
-use Rattle.wkt.proofs.Numbers.{fine-x, fine-y, fine-z, coord-is}
+use native.Mathlib.Omega.{arith}
+use Rattle.wkt.proofs.PlainNumbers.{width-few, kept-room, plain-coord, token-coord}
 
-number-requires : tie.Need-number-requires
-number-requires c κs = search needs
+width-of-requires : tie.Need-width-of-requires
+width-of-requires c κs = search needs
 
-then-number-requires : tie.Need-then-number-requires
-then-number-requires c κs = fine-x (c .before .before .before .number .ensures) (c .before .before .before .number .kept .1 .0)
+coord-requires : tie.Need-coord-requires
+coord-requires c κs = (c .before .before .before .before .pre .short, c .before .before .before .before .pre .numbers, rw (c .before .width-of .ensures) (width-few _))
 
-has-z-requires : tie.Need-has-z-requires
-has-z-requires c κs = search needs
-
-if-asked-requires : tie.Need-if-asked-requires
-if-asked-requires c κs =
-    fine-y (c .before .before .before .before .before .before .before .before .number .ensures) (c .before .before .before .before .before .before .before .before .number .kept .1 .0) (c .before .before .before .before .then-number .ensures) (c .before .before .before .before .then-number .kept .1 .0)
-
-has-m-requires : tie.Need-has-m-requires
-has-m-requires c κs = search needs
-
-if-asked-requires-2 : tie.Need-if-asked-requires-2
-if-asked-requires-2 c κs =
-    fine-z (c .before .before .before .before .before .before .before .before .before .before .before .before .before .number .ensures) (c .before .before .before .before .before .before .before .before .before .before .before .before .before .number .kept .1 .0) (c .before .before .before .before .before .before .before .before .before .then-number .ensures) (c .before .before .before .before .before .before .before .before .before .then-number .kept .1 .0) (c .before .before .before .before .before .before .before .before .before .before .before .before .before .before .before .before .before .args .dimension) (rw (c .before .before .before .before .before .has-z .ensures) at (c .before .before .before .before .if-asked .ensures)) (c .before .before .before .before .if-asked .kept .1 .0)
+add-t13 : tie.Need-add-t13
+add-t13 c = omega (arith, c .before .before .before .before .before .before .before .before .pre .numbers, c .before .before .before .before .before .width-of .ensures, width-few (c .before .before .before .before .before .before .before .before .args .dimension))
 
 same-length : tie.Need-same-length
-same-length c = search needs
+same-length c = c .before .before .before .coord .ensures .kept .same
 
 returns : tie.Need-returns
-returns c =
-    coord-is (c .before .before .before .before .before .before .before .before .before .before .before .before .before .before .before .before .number .ensures) (c .before .before .before .before .before .before .before .before .before .before .before .before .before .before .before .before .number .kept .1 .0) (c .before .before .before .before .before .before .before .before .before .before .before .before .then-number .ensures) (c .before .before .before .before .before .before .before .before .before .before .before .before .then-number .kept .1 .0) _ (rw (c .before .before .before .before .before .before .before .before .has-z .ensures) at (c .before .before .before .before .before .before .before .if-asked .ensures)) (c .before .before .before .before .before .before .before .if-asked .kept .1 .0) (rw (c .before .before .before .has-m .ensures) at (c .before .before .if-asked2 .ensures))
+returns c = plain-coord (c .before .before .before .before .before .width-of .ensures) (c .before .before .before .coord .ensures .numbers (c .if1 .taken))
+
+by-tokens-requires : tie.Need-by-tokens-requires
+by-tokens-requires c κs = kept-room (c .before .before .before .before .coord .ensures .kept) (c .before .before .before .before .before .before .before .before .before .pre)
+
+same-length-2 : tie.Need-same-length-2
+same-length-2 c = search needs
+
+returns-2 : tie.Need-returns-2
+returns-2 c = token-coord (c .before .before .before .before .before .before .before .coord .ensures .kept) (c .before .before .by-tokens .ensures)
 
 pub coord-spec : {M : Type 1} → statement M
 coord-spec =
     tie.close
     (tie.spec
-    number-requires
-    then-number-requires
-    has-z-requires
-    if-asked-requires
-    has-m-requires
-    if-asked-requires-2
+    width-of-requires
+    coord-requires
+    add-t13
     same-length
-    returns)
+    returns
+    by-tokens-requires
+    same-length-2
+    returns-2)

@@ -30,19 +30,16 @@ same-length : tie.Need-same-length
 same-length c = search needs
 
 returns : tie.Need-returns
-returns c =
-    rw (c .before .before .put-number .ensures)
-    (number-done _ (c .before .before .before .before .before .before .before .before .before .before .before .before .before .before .before .before .pre) (c .before .before .before .before .before .before .before .before .before .before .before .before .take .ensures) (c .before .before .before .before .before .before .before .before .before .if1 .taken) (rw (c .before .before .before .before .before .before .before .number-room .ensures) at (c .before .before .before .before .before .before .if2 .taken)))
+returns c = rw (c .before .before .put-number .ensures) (number-done _ (c .before .before .before .before .before .before .before .before .before .before .before .before .before .before .pre) (c .before .before .before .before .before .before .before .before .before .before .before .take .ensures) (c .before .before .before .before .before .before .before .before .before .if1 .taken) (rw (c .before .before .before .before .before .before .before .number-room .ensures) at (c .before .before .before .before .before .before .if2 .taken)))
 
 same-length-2 : tie.Need-same-length-2
 same-length-2 c = search needs
 
 returns-2 : tie.Need-returns-2
-returns-2 c =
-    number-full _ (c .before .before .before .before .before .before .before .before .before .before .pre) (c .before .before .before .before .before .before .take .ensures) (c .before .before .before .if1 .taken) (rw (c .before .number-room .ensures) at (c .if2 .left))
+returns-2 c = number-full _ (c .before .before .before .before .before .before .before .before .pre) (c .before .before .before .before .before .take .ensures) (c .before .before .before .if1 .taken) (rw (c .before .number-room .ensures) at (c .if2 .left))
 
 returns-3 : tie.Need-returns-3
-returns-3 c = number-no _ (c .before .before .before .before .before .before .before .before .pre) (c .before .before .before .before .take .ensures) (c .before .if1 .left) (c .refusal-at .ensures)
+returns-3 c = number-no _ (c .before .before .before .before .before .before .pre) (c .before .before .before .take .ensures) (c .before .if1 .left) (c .refusal-at .ensures)
 
 pub number-spec : {M : Type 1} → statement M
 number-spec =

@@ -14,7 +14,7 @@ enum-known-head : tie.Need-enum-known-head
 enum-known-head c = search needs
 
 in-parens-requires : tie.Need-in-parens-requires
-in-parens-requires c κs = head-room (c .before .before .before .before .before .before .before .before .before .before .pre) (c .before .before .before .before .before .opener .ensures) (c .before .before .before .head .given .1)
+in-parens-requires c κs = head-room (c .before .before .before .before .before .before .before .before .before .pre) (c .before .before .before .before .before .opener .ensures) (c .before .before .before .head .given .1)
 
 enum-known-head-2 : tie.Need-enum-known-head-2
 enum-known-head-2 c = search needs
@@ -33,18 +33,18 @@ same-length-2 c = search needs
 
 returns : tie.Need-returns
 returns c =
-    as-line _ (child-opens _ _ (λ N M. spec.lineIn N M enough) (c .before .before .before .before .before .before .before .before .before .before .before .before .before .before .before .pre) (c .before .before .before .before .before .before .before .before .before .before .opener .ensures) (c .before .before .before .before .before .before .before .before .head .given .1) (c .before .before .before .before .in-parens .ensures))
+    as-line _ (child-opens _ _ (λ N M. spec.lineIn N M enough) (c .before .before .before .before .before .before .before .before .before .before .before .before .before .before .pre) (c .before .before .before .before .before .before .before .before .before .before .opener .ensures) (c .before .before .before .before .before .before .before .before .head .given .1) (c .before .before .before .before .in-parens .ensures))
 
 same-length-3 : tie.Need-same-length-3
 same-length-3 c = search needs
 
 returns-2 : tie.Need-returns-2
 returns-2 c =
-    as-line _ (child-empty _ _ (λ N M. spec.lineIn N M enough) (c .before .before .before .before .before .before .before .before .before .before .before .before .pre) (c .before .before .before .before .before .before .before .opener .ensures) (c .before .before .before .before .before .head2 .given .1) (c .before .before .node .ensures))
+    as-line _ (child-empty _ _ (λ N M. spec.lineIn N M enough) (c .before .before .before .before .before .before .before .before .before .before .before .pre) (c .before .before .before .before .before .before .before .opener .ensures) (c .before .before .before .before .before .head2 .given .1) (c .before .before .node .ensures))
 
 returns-3 : tie.Need-returns-3
 returns-3 c =
-    as-line _ (child-wrong _ _ (λ N M. spec.lineIn N M enough) (c .before .before .before .before .before .before .before .before .pre) (c .before .before .before .opener .ensures) (c .before .head3 .given .1))
+    as-line _ (child-wrong _ _ (λ N M. spec.lineIn N M enough) (c .before .before .before .before .before .before .before .pre) (c .before .before .before .opener .ensures) (c .before .head3 .given .1))
 
 pub with-parens-spec : {M : Type 1} → statement M
 with-parens-spec =

@@ -5,7 +5,7 @@ use Rattle.wkt.proofs.multipolygon.body.Tie as tie
 use mathlib.Core.Path.{_∙_}
 use borrow.Author.Needs.{needs}
 use native.Mathlib.Omega.{arith}
-use Rattle.tokenizer.specs.Stream.{size, stream}
+use Rattle.tokenizer.specs.Stream.{size, toks}
 use Rattle.wkt.specs.Means.{polygonOf}
 use Rattle.wkt.proofs.Lists.{ListInv, list-first, list-room, list-few, list-refused, list-stopped, list-last, list-more, list-less, item-room}
 
@@ -14,7 +14,7 @@ Inv-loop text nodes₀ numbers₀ row dimension at₀ parts₀ nodes numbers at 
     ListInv text row (polygonOf dimension) nodes₀ numbers₀ at₀ nodes numbers parts at
 
 abbrev μ-loop : tie.MeasureT-loop
-μ-loop text nodes₀ numbers₀ row dimension at₀ parts₀ nodes numbers at parts = size (stream text (at .cursor))
+μ-loop text nodes₀ numbers₀ row dimension at₀ parts₀ nodes numbers at parts = size (toks text (at .at))
 
 loop-holds : tie.Need-loop-holds Inv-loop μ-loop
 loop-holds c = list-first (c .before .before .before .pre .0) (c .before .before .before .pre .1)
@@ -29,7 +29,7 @@ add-parts : tie.Need-add-parts Inv-loop μ-loop
 add-parts c = omega (arith, list-few (c .before .before .before .before .before .before .before .before .before .before .loop .inv))
 
 after-part-requires : tie.Need-after-part-requires Inv-loop μ-loop
-after-part-requires c κs = item-room (c .before .before .before .before .before .before .before .with-parens .ensures) (c .before .got .given .1) .sound
+after-part-requires c κs = search needs
 
 enum-known-next : tie.Need-enum-known-next Inv-loop μ-loop
 enum-known-next c = search needs

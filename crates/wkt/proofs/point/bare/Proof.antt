@@ -22,7 +22,7 @@ add-t22 c = search needs
 body-requires : tie.Need-body-requires
 body-requires c κs =
     let room = rw (c .before .before .before .before .before .before .before .node-room .ensures) at (c .before .before .before .before .before .before .if1 .taken) in
-    (omega arith, body-room (c .before .before .before .before .before .before .before .before .before .before .before .before .before .pre) room (ap (λ (k : ℕ). k / nodeWidth) (c .before .before .before .before .put-node .kept .0)))
+    (omega arith, body-room (c .before .before .before .before .before .before .before .before .before .before .before .before .pre) room (ap (λ (k : ℕ). k / nodeWidth) (c .before .before .before .before .put-node .kept .0)))
 
 same-length : tie.Need-same-length
 same-length c = search needs

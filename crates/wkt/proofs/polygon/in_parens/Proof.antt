@@ -7,7 +7,7 @@ use mathlib.Core.Path.{ap}
 use Prim.Native.Nat.{ℕ, _/_}
 use native.Mathlib.Omega.{arith}
 use Rattle.store.specs.Rows.{nodeWidth}
-use Rattle.wkt.proofs.Parts.{body-room, known}
+use Rattle.wkt.proofs.Parts.{body-room}
 use Rattle.wkt.proofs.Geometries.{polygon-in, polygon-full}
 
 node-room-requires : tie.Need-node-room-requires
@@ -22,10 +22,10 @@ add-t23 c = search needs
 lines-requires : tie.Need-lines-requires
 lines-requires c κs =
     let room = rw (c .before .before .before .before .before .before .before .node-room .ensures) at (c .before .before .before .before .before .before .if1 .taken) in
-    (omega arith, body-room (c .before .before .before .before .before .before .before .before .before .before .before .before .before .pre) room (ap (λ (k : ℕ). k / nodeWidth) (c .before .before .before .before .put-node .kept .0)))
+    (omega arith, body-room (c .before .before .before .before .before .before .before .before .before .before .before .before .pre) room (ap (λ (k : ℕ). k / nodeWidth) (c .before .before .before .before .put-node .kept .0)))
 
 closing-requires : tie.Need-closing-requires
-closing-requires c κs = known (c .before .before .before .before .lines .ensures)
+closing-requires c κs = search needs
 
 same-length : tie.Need-same-length
 same-length c = search needs

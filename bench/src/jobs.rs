@@ -1,0 +1,160 @@
+//! What is measured. All of it goes through one function, which callgrind is told to
+//! count in, so that nothing around it counts.
+
+use crate::library;
+use crate::samples::{Sample, AMPLE_NODES, AMPLE_NUMBERS};
+use std::hint::black_box;
+use std::str::FromStr;
+use wkt::Wkt;
+
+/// The function's name, for callgrind.
+pub const MEASURED: &str = "measured";
+
+#[derive(Clone, Copy, Debug, PartialEq, Eq, Hash)]
+pub enum Work {
+    /// The proved reader, with exactly the rows that the text needs.
+    Exact,
+    /// The proved reader, with the rows that any text could need. It clears those that
+    /// it doesn't use.
+    Ample,
+    /// The proved reader without rows, on the text with an ill-formed last byte: it ends
+    /// after its UTF-8 check.
+    Utf8,
+    /// The proved writer, into a room that the canonical text fits exactly.
+    Write,
+    /// The Rust's reader. Its tree is freed, and that counts.
+    Rust,
+    /// The standard library's UTF-8 check, which a `str` has behind it.
+    RustUtf8,
+    /// The standard library's `f64` from every number text, as the Rust's reader asks it.
+    RustDoubles,
+}
+
+pub const WORKS: [Work; 7] = [
+    Work::Exact,
+    Work::Ample,
+    Work::Utf8,
+    Work::Write,
+    Work::Rust,
+    Work::RustUtf8,
+    Work::RustDoubles,
+];
+
+impl Work {
+    pub fn name(self) -> &'static str {
+        match self {
+            Work::Exact => "exact",
+            Work::Ample => "ample",
+            Work::Utf8 => "utf8",
+            Work::Write => "write",
+            Work::Rust => "rust",
+            Work::RustUtf8 => "rust-utf8",
+            Work::RustDoubles => "rust-doubles",
+        }
+    }
+
+    pub fn named(name: &str) -> Option<Work> {
+        WORKS.into_iter().find(|work| work.name() == name)
+    }
+
+    /// A refused text has nothing to write.
+    pub fn applies_to(self, sample: &Sample) -> bool {
+        self != Work::Write || sample.is_accepted()
+    }
+
+    /// The bytes that an amount is divided by: those written by the writer, else those
+    /// read.
+    pub fn bytes_of(self, sample: &Sample) -> usize {
+        match self {
+            Work::Write => sample.canonical.len(),
+            _ => sample.text.len(),
+        }
+    }
+}
+
+/// A work with all that it needs, so that measuring it allocates nothing of our own. The
+/// slices keep what the last call left in them: nobody clears them between calls.
+pub struct Job<'a> {
+    work: Work,
+    text: &'a str,
+    bytes: Vec<u8>,
+    nodes: Vec<u32>,
+    numbers: Vec<u32>,
+    number_texts: Vec<&'a str>,
+    out: Vec<u8>,
+    expected: u64,
+}
+
+impl<'a> Job<'a> {
+    pub fn new(work: Work, sample: &'a Sample) -> Self {
+        let (nodes, numbers) = rows_lent(work, sample);
+        Job {
+            work,
+            text: &sample.text,
+            bytes: bytes_read(work, sample),
+            nodes,
+            numbers,
+            number_texts: sample.number_texts(),
+            out: sample.canonical.clone(),
+            expected: expected_number(work, sample),
+        }
+    }
+
+    /// Does the work once.
+    ///
+    /// # Panics
+    ///
+    /// Panics if the answer isn't the one found when the readers were compared.
+    pub fn run(&mut self) {
+        let number = measured(self);
+        assert_eq!(
+            number,
+            self.expected,
+            "{} answers otherwise",
+            self.work.name()
+        );
+    }
+}
+
+fn rows_lent(work: Work, sample: &Sample) -> (Vec<u32>, Vec<u32>) {
+    match work {
+        Work::Exact | Work::Write => (sample.nodes.clone(), sample.numbers.clone()),
+        Work::Ample => (vec![1; AMPLE_NODES], vec![1; AMPLE_NUMBERS]),
+        _ => (Vec::new(), Vec::new()),
+    }
+}
+
+fn bytes_read(work: Work, sample: &Sample) -> Vec<u8> {
+    let mut bytes = sample.text.clone().into_bytes();
+    if let (Work::Utf8, Some(last)) = (work, bytes.last_mut()) {
+        *last = 0xFF;
+    }
+    bytes
+}
+
+/// The number that `measured` must answer: document 01's, and 1 for a refusal by Rust.
+fn expected_number(work: Work, sample: &Sample) -> u64 {
+    match work {
+        Work::Exact | Work::Ample => sample.answer.number,
+        Work::Utf8 => 2,
+        Work::Rust => u64::from(!sample.is_accepted()),
+        Work::Write | Work::RustUtf8 | Work::RustDoubles => 0,
+    }
+}
+
+#[inline(never)]
+#[no_mangle]
+fn measured(job: &mut Job) -> u64 {
+    match job.work {
+        Work::Exact | Work::Ample | Work::Utf8 => {
+            library::read(&job.bytes, &mut job.nodes, &mut job.numbers).number
+        }
+        Work::Write => library::write(&job.bytes, &job.nodes, &job.numbers, &mut job.out).number,
+        Work::Rust => u64::from(Wkt::<f64>::from_str(job.text).is_err()),
+        Work::RustUtf8 => u64::from(std::str::from_utf8(&job.bytes).is_err()),
+        Work::RustDoubles => {
+            let read = |text: &&str| black_box(f64::from_str(text)).is_err();
+            u64::from(job.number_texts.iter().any(read))
+        }
+    }
+}

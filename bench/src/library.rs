@@ -1,0 +1,89 @@
+//! The proved library's entries for C. A slice goes as a pointer and a length.
+
+const ANSWER_PLACES: usize = 4;
+
+extern "C" {
+    fn doorhollow_read(
+        text: *const u8,
+        text_length: usize,
+        nodes: *mut u32,
+        nodes_length: usize,
+        numbers: *mut u32,
+        numbers_length: usize,
+        answer: *mut [u64; ANSWER_PLACES],
+    );
+    fn doorhollow_write(
+        text: *const u8,
+        text_length: usize,
+        nodes: *const u32,
+        nodes_length: usize,
+        numbers: *const u32,
+        numbers_length: usize,
+        out: *mut u8,
+        out_length: usize,
+        answer: *mut [u64; ANSWER_PLACES],
+    );
+}
+
+#[derive(Clone, Copy, Debug, PartialEq, Eq)]
+pub struct ReadAnswer {
+    pub number: u64,
+    pub place: u64,
+    pub nodes: u64,
+    pub numbers: u64,
+}
+
+#[derive(Clone, Copy, Debug, PartialEq, Eq)]
+pub struct WriteAnswer {
+    pub number: u64,
+    pub place: u64,
+    pub length: u64,
+}
+
+pub fn read(text: &[u8], nodes: &mut [u32], numbers: &mut [u32]) -> ReadAnswer {
+    let mut answer = [0; ANSWER_PLACES];
+    // SAFETY: each pointer comes from a slice, with that slice's length, and the slices
+    // that are written to are lent for writing.
+    unsafe {
+        doorhollow_read(
+            text.as_ptr(),
+            text.len(),
+            nodes.as_mut_ptr(),
+            nodes.len(),
+            numbers.as_mut_ptr(),
+            numbers.len(),
+            &mut answer,
+        );
+    }
+    let [number, place, nodes, numbers] = answer;
+    ReadAnswer {
+        number,
+        place,
+        nodes,
+        numbers,
+    }
+}
+
+pub fn write(text: &[u8], nodes: &[u32], numbers: &[u32], out: &mut [u8]) -> WriteAnswer {
+    let mut answer = [0; ANSWER_PLACES];
+    // SAFETY: as in `read`.
+    unsafe {
+        doorhollow_write(
+            text.as_ptr(),
+            text.len(),
+            nodes.as_ptr(),
+            nodes.len(),
+            numbers.as_ptr(),
+            numbers.len(),
+            out.as_mut_ptr(),
+            out.len(),
+            &mut answer,
+        );
+    }
+    let [number, place, length, _] = answer;
+    WriteAnswer {
+        number,
+        place,
+        length,
+    }
+}

@@ -1,0 +1,167 @@
+//! A text with its rows, after both readers have answered the same.
+
+use crate::library::{self, ReadAnswer};
+use crate::texts::{Kind, LIMIT};
+use driver::reader::{self, Reading, Tree};
+
+/// Places of a node row and of a number row.
+const NODE_WIDTH: usize = 3;
+const NUMBER_WIDTH: usize = 2;
+
+/// Places that every text has room in: a node takes 4 bytes of text at least (`1 2,` in a
+/// multipoint), and a number 2.
+pub const AMPLE_NODES: usize = NODE_WIDTH * (LIMIT / 4 + 1);
+pub const AMPLE_NUMBERS: usize = NUMBER_WIDTH * (LIMIT / 2 + 1);
+
+/// What a lent place holds before a call, so that a place that isn't written shows.
+const UNCLEARED: u32 = 0xDEAD_BEEF;
+
+pub struct Sample {
+    pub kind: Kind,
+    /// The text has at most so many bytes.
+    pub size: usize,
+    pub text: String,
+    pub answer: ReadAnswer,
+    /// The rows of the text, or of the accepted text that the refused one was made from.
+    pub nodes: Vec<u32>,
+    pub numbers: Vec<u32>,
+    /// Empty if the text is refused.
+    pub canonical: Vec<u8>,
+}
+
+struct Rows {
+    answer: ReadAnswer,
+    nodes: Vec<u32>,
+    numbers: Vec<u32>,
+}
+
+impl Sample {
+    /// The text of this kind and size, or why it can't be measured.
+    pub fn compared(kind: Kind, size: usize) -> Result<Sample, String> {
+        let sample = Sample::read(kind, size)?;
+        let rust = reader::read(&sample.text);
+        sample.agree(&rust).map_err(|why| {
+            let bytes = sample.text.len();
+            format!("text {} of {bytes} bytes: {why}", kind.name())
+        })?;
+        Ok(sample)
+    }
+
+    fn read(kind: Kind, size: usize) -> Result<Sample, String> {
+        let text = kind.text(size);
+        if text.len() > size.min(LIMIT) {
+            return Err(format!("text {} is too long", kind.name()));
+        }
+        let rows = used_rows(&kind.accepted_text(size));
+        let answer = read_with_room(&text, rows.nodes.len(), rows.numbers.len()).answer;
+        let canonical = match answer.number {
+            0 => canonical_of(&text, &rows)?,
+            _ => Vec::new(),
+        };
+        Ok(Sample {
+            kind,
+            size,
+            text,
+            answer,
+            nodes: rows.nodes,
+            numbers: rows.numbers,
+            canonical,
+        })
+    }
+
+    fn agree(&self, rust: &Reading) -> Result<(), String> {
+        match rust {
+            Reading::Accepted(tree) => self.agree_on_tree(tree),
+            Reading::Refused { number, .. } => self.agree_on_refusal(*number),
+        }
+    }
+
+    fn agree_on_tree(&self, tree: &Tree) -> Result<(), String> {
+        let texts = tree.numbers.iter().map(|number| number.text.as_str());
+        hold(self.kind != Kind::Refused, "it should be refused")?;
+        hold(self.is_accepted(), "the library refuses it")?;
+        hold(
+            self.nodes == tree.nodes.concat(),
+            "the node rows aren't the Rust's",
+        )?;
+        hold(
+            self.number_texts().into_iter().eq(texts),
+            "the number texts aren't the Rust's",
+        )?;
+        let again = std::str::from_utf8(&self.canonical).map(reader::read);
+        hold(
+            again == Ok(Reading::Accepted(tree.clone())),
+            "the Rust doesn't read the canonical text as it reads this one",
+        )
+    }
+
+    fn agree_on_refusal(&self, number: u32) -> Result<(), String> {
+        let last = self.text.len() as u64 - 1;
+        hold(self.kind == Kind::Refused, "it should be accepted")?;
+        hold(
+            self.answer.number == u64::from(number),
+            "the refusal isn't the Rust's",
+        )?;
+        hold(
+            self.answer.place == last,
+            "it isn't refused at its last byte",
+        )
+    }
+
+    pub fn is_accepted(&self) -> bool {
+        self.answer.number == 0
+    }
+
+    pub fn number_texts(&self) -> Vec<&str> {
+        let span = |row: &[u32]| &self.text[row[0] as usize..(row[0] + row[1]) as usize];
+        self.numbers.chunks(NUMBER_WIDTH).map(span).collect()
+    }
+
+    pub fn node_count(&self) -> usize {
+        self.nodes.len() / NODE_WIDTH
+    }
+
+    pub fn number_count(&self) -> usize {
+        self.numbers.len() / NUMBER_WIDTH
+    }
+
+    /// How many coordinates the geometry has: the parts of its points and line strings.
+    pub fn coordinate_count(&self) -> u64 {
+        let is_leaf = |row: &&[u32]| row[0] == reader::POINT || row[0] == reader::LINE_STRING;
+        let leaves = self.nodes.chunks(NODE_WIDTH).filter(is_leaf);
+        leaves.map(|row| u64::from(row[2])).sum()
+    }
+}
+
+fn hold(fact: bool, otherwise: &str) -> Result<(), String> {
+    fact.then_some(()).ok_or_else(|| otherwise.to_string())
+}
+
+fn used_rows(text: &str) -> Rows {
+    let mut rows = read_with_room(text, AMPLE_NODES, AMPLE_NUMBERS);
+    rows.nodes.truncate(NODE_WIDTH * rows.answer.nodes as usize);
+    rows.numbers
+        .truncate(NUMBER_WIDTH * rows.answer.numbers as usize);
+    rows
+}
+
+fn read_with_room(text: &str, node_places: usize, number_places: usize) -> Rows {
+    let mut nodes = vec![UNCLEARED; node_places];
+    let mut numbers = vec![UNCLEARED; number_places];
+    let answer = library::read(text.as_bytes(), &mut nodes, &mut numbers);
+    Rows {
+        answer,
+        nodes,
+        numbers,
+    }
+}
+
+/// The canonical text may be longer than the text: a bare point of a multipoint gets
+/// parentheses. Twice as long is enough.
+fn canonical_of(text: &str, rows: &Rows) -> Result<Vec<u8>, String> {
+    let mut out = vec![0; 2 * text.len()];
+    let answer = library::write(text.as_bytes(), &rows.nodes, &rows.numbers, &mut out);
+    hold(answer.number == 0, "the writer refuses its rows")?;
+    out.truncate(answer.length as usize);
+    Ok(out)
+}

@@ -1,0 +1,164 @@
+-- Demand 2: the reader is the grammar, every edge is read as the table says, and readers that invent are shut out.
+-- Assumes nothing.
+use mathlib.Core.Path.{_≡_, refl, ap, sym, _∙_}
+use mathlib.Core.Logic.{_⊎_, inl, inr}
+use mathlib.Core.Option.{some}
+use mathlib.Core.List.{List, [], _∷_, flatMap}
+use Prim.Native.Nat.{ℕ}
+use native.Mathlib.Omega.{arith}
+use lib.ListN.{length, getD, length-map}
+use borrow.Author.Tests.{le-leb}
+use Rattle.scan.specs.Text.{bytes}
+use Rattle.scan.specs.Front.{begins, afterOne, afterAll, isNil}
+use Rattle.words.specs.Words.{sameWord}
+use Rattle.number.specs.Lexeme.{isNamed, isDigits, isExponent, isDecimal, isUnsigned, isLexeme}
+use Rattle.names.specs.Lists.{every}
+use Rattle.names.specs.Kinds.{kindPoint, kindMultiPoint, dimXY}
+use Rattle.tokenizer.proofs.Bridge.{toks-lex}
+use Rattle.store.specs.Rows.{row, span, nodeRoom, numberRoom, cell, partsAt, startAt, firsts, rowsIn, spansIn, flatRows, flatSpans, zeros, padded}
+use Rattle.grammar.specs.Lists.{All}
+use Rattle.grammar.specs.Answers.{Passes}
+use Rattle.grammar.specs.Edges.{Edge, reads, Holds, edges, every-edge}
+use Rattle.grammar.specs.Grammar.{Got, ok, out}
+use Rattle.grammar.specs.Store.{spanText, spanTexts}
+use Rattle.grammar.specs.Whole.{depthLimit, reading}
+use Rattle.grammar.proofs.Found.{trees-own}
+use Rattle.grammar.proofs.WellRead.{reading-well-formed}
+use Rattle.wkt.specs.declared.ReadAnswer.{ReadAnswer}
+use Rattle.wkt.specs.Whole.{Leaves, leaves-one, answerOf, rowsOf, spansOf, rootIn}
+use Rattle.shape.specs.Nodes.{width, numbersOf, childKind, isAllowed, after, ends, isOpen, atLast, visitsBy, visits, treeOf}
+use Rattle.shape.specs.Numbers.{textAt, areNumbers}
+use Rattle.shape.specs.Store.{areWhole, visitsOf}
+use Rattle.to_wkt.specs.Canonical.{needsPlus, spell, putNumber, putSpaced, putCoordinate, putListed, putCoordinates, stringOf, putName, putDimension, putHead, putBody, putClosings, putTail, putNode, nodesText, canonical}
+use Rattle.to_wkt.specs.Write as write
+use Rattle.demands.specs.Calls.{usedNodes, usedNumbers}
+use Rattle.demands.specs.Demand2.{ReadsAsGrammar, Counted, ReadsEdge, EveryEdge, EdgeWritten, Left, Reader, Meets, OneReader, RefusesAll, FixedTree, FirstChildOnly, ShutsOut}
+use Rattle.demands.proofs.Flat.{used-rows, used-spans}
+use Rattle.demands.proofs.Calls.{accepts, left, its-nodes, its-spans}
+
+passing : (N M : ℕ) (text : List ℕ) → Passes text → reading N M text ≡ rootIn N M text
+unfolding reading rootIn
+passing N M text p = rw (p .short, p .utf8, toks-lex text)
+
+pub reads-as-grammar : ReadsAsGrammar
+reads-as-grammar text ns ms a ns′ ms′ p = let e = passing (nodeRoom ns) (numberRoom ms) text p in ((λ r. rw e at r), λ l. rw e l)
+
+pub counted : Counted
+counted text ns ms a ns′ ms′ r z =
+    let o = accepts text ns ms a ns′ ms′ r z in
+    let w = reading-well-formed (nodeRoom ns) (numberRoom ms) text (o .rows) (o .spans) (o .is) in
+    let t = trees-own depthLimit (o .rows) (spanTexts (o .spans)) (w .tree) (w .is) in
+    let l = left text ns ms a ns′ ms′ (o .rows) (o .spans) r (o .is) in
+    record {
+      tree = w .tree;
+      shape = t .shape;
+      nodes = ap (λ (x : ReadAnswer). x .nodes) (l .answer) ∙ ap length (t .its-rows);
+      numbers = ap (λ (x : ReadAnswer). x .numbers) (l .answer) ∙ sym (length-map (o .spans) spanText) ∙ ap length (t .its-texts);
+      its-rows = its-nodes text ns ms a ns′ ms′ (o .rows) (o .spans) r (o .is) ∙ ap flatRows (t .its-rows);
+      its-texts = ap spanTexts (its-spans text ns ms a ns′ ms′ (o .rows) (o .spans) r (o .is)) ∙ t .its-texts;
+    }
+
+-- ---- the edges
+edge : (e : Edge) → Holds e → ReadsEdge e
+edge (reads N M text g) h = λ ns ms a ns′ ms′ n m r. rw (n, m, h) at r
+
+all-edges : (es : List Edge) → All Holds es → All ReadsEdge es
+unfolding All
+all-edges [] h = tt
+all-edges (e ∷ es) h = (edge e (h .0), all-edges es (h .1))
+
+pub reads-edges : EveryEdge
+reads-edges = all-edges edges every-edge
+
+-- ---- readers
+theReader : Reader
+theReader text ns ms =
+    let g : Got = reading (nodeRoom ns) (numberRoom ms) text in
+    record { answer = answerOf g; nodes = padded (rowsOf g) (length ns); numbers = padded (spansOf g) (length ms) }
+
+same-left : (x y : Left) → x .answer ≡ y .answer → x .nodes ≡ y .nodes → x .numbers ≡ y .numbers → x ≡ y
+same-left x y a n m = ap (λ (z : ReadAnswer). record { answer = z; nodes = x .nodes; numbers = x .numbers }) a ∙ ap (λ (z : List ℕ). record { answer = y .answer; nodes = z; numbers = x .numbers }) n ∙ ap (λ (z : List ℕ). record { answer = y .answer; nodes = y .nodes; numbers = z }) m
+
+pub one-reader : OneReader
+unfolding theReader
+one-reader = (
+  (theReader, λ text ns ms. record { answer = refl; nodes = refl; numbers = refl }),
+  λ f g x y text ns ms. (let u = leaves-one (x text ns ms) (y text ns ms) in same-left (f text ns ms) (g text ns ms) (u .0) (u .1) (u .2)),
+)
+
+-- slices for 40 node rows and 9 number rows, as the edges have them
+ns₀ : List ℕ
+ns₀ = zeros 120
+
+ms₀ : List ℕ
+ms₀ = zeros 18
+
+nodes-40 : nodeRoom ns₀ ≡ 40
+unfolding ns₀
+nodes-40 = refl
+
+numbers-9 : numberRoom ms₀ ≡ 9
+unfolding ms₀
+numbers-9 = refl
+
+abbrev pub point : List ℕ
+point = bytes "POINT(++4 +-4)"
+
+abbrev multipoint : List ℕ
+multipoint = bytes "MULTIPOINT((1 2),3 4)"
+
+module _ (f : Reader) (m : Meets f) where
+  point-read : Leaves (ok (out (row kindPoint dimXY 1 ∷ []) (span 7 2 (bytes "+4") ∷ span 11 2 (bytes "-4") ∷ []))) ns₀ ms₀ (f point ns₀ ms₀ .answer) (f point ns₀ ms₀ .nodes) (f point ns₀ ms₀ .numbers)
+  unfolding edges All
+  point-read = reads-edges .1 .1 .1 .1 .1 .1 .1 .1 .0 ns₀ ms₀ _ _ _ nodes-40 numbers-9 (m point ns₀ ms₀)
+
+  multipoint-read : Leaves (ok (out (row kindMultiPoint dimXY 2 ∷ row kindPoint dimXY 1 ∷ row kindPoint dimXY 1 ∷ []) (span 12 1 (bytes "1") ∷ span 14 1 (bytes "2") ∷ span 17 1 (bytes "3") ∷ span 19 1 (bytes "4") ∷ []))) ns₀ ms₀ (f multipoint ns₀ ms₀ .answer) (f multipoint ns₀ ms₀ .nodes) (f multipoint ns₀ ms₀ .numbers)
+  unfolding edges All
+  multipoint-read = reads-edges .1 .1 .1 .1 .1 .1 .1 .1 .1 .0 ns₀ ms₀ _ _ _ nodes-40 numbers-9 (m multipoint ns₀ ms₀)
+
+pub shuts-out-refusal : ShutsOut RefusesAll
+shuts-out-refusal f m bad = bad point ns₀ ms₀ (ap (λ (x : ReadAnswer). x .number) (point-read f m .answer))
+
+pub shuts-out-fixed : ShutsOut FixedTree
+unfolding flatRows flatMap
+shuts-out-fixed f m bad =
+    let l = point-read f m in
+    let l′ = multipoint-read f m in
+    let e = bad point ns₀ ms₀ multipoint ns₀ ms₀ (ap (λ (x : ReadAnswer). x .number) (l .answer)) (ap (λ (x : ReadAnswer). x .number) (l′ .answer)) in
+    let u : usedNodes (f point ns₀ ms₀ .answer) (f point ns₀ ms₀ .nodes) ≡ 1 ∷ 0 ∷ 1 ∷ [] = rw (l .answer, l .nodes) (used-rows (row kindPoint dimXY 1 ∷ []) (length ns₀)) in
+    let u′ : usedNodes (f multipoint ns₀ ms₀ .answer) (f multipoint ns₀ ms₀ .nodes) ≡ 4 ∷ 0 ∷ 2 ∷ 1 ∷ 0 ∷ 1 ∷ 1 ∷ 0 ∷ 1 ∷ [] = rw (l′ .answer, l′ .nodes) (used-rows (row kindMultiPoint dimXY 2 ∷ row kindPoint dimXY 1 ∷ row kindPoint dimXY 1 ∷ []) (length ns₀)) in
+    let z : _≡_ {A = ℕ} 1 4 = ap (λ (x : List ℕ). getD x 0 0) (sym u ∙ e ∙ u′) in
+    omega (arith, z)
+
+pub shuts-out-first : ShutsOut FirstChildOnly
+unfolding flatRows flatSpans flatMap cell ns₀ ms₀
+shuts-out-first f m bad =
+    let l = multipoint-read f m in
+    go (bad multipoint ns₀ ms₀ (ap (λ (x : ReadAnswer). x .number) (l .answer)) (rw (l .nodes)))
+  where
+    go : (partsAt (f multipoint ns₀ ms₀ .nodes) 2 ≡ 0) ⊎ (startAt (f multipoint ns₀ ms₀ .numbers) 2 ≡ startAt (f multipoint ns₀ ms₀ .numbers) 0) → ⊥
+    go (inl e) = let z : _≡_ {A = ℕ} 1 0 = rw (multipoint-read f m .nodes) at e in omega (arith, z)
+    go (inr e) = let z : _≡_ {A = ℕ} 17 12 = rw (multipoint-read f m .numbers) at e in omega (arith, z)
+
+-- ---- the edge that is written
+-- all that its writing computes with
+all : ℕ
+unfolding begins afterOne afterAll isNil sameWord isNamed isDigits isExponent isDecimal isUnsigned isLexeme every cell firsts rowsIn spansIn width numbersOf childKind isAllowed after ends isOpen atLast visitsBy visits treeOf textAt areNumbers areWhole visitsOf needsPlus spell putNumber putSpaced putCoordinate putListed putCoordinates stringOf putName putDimension putHead putBody putClosings putTail putNode nodesText canonical
+all = 0
+
+pub point-text : canonical point (1 ∷ 0 ∷ 1 ∷ []) (7 ∷ 2 ∷ 11 ∷ 2 ∷ []) ≡ some (bytes "POINT(++4 -4)")
+unfolding all
+point-text = refl
+
+pub empty-text : canonical [] (1 ∷ 0 ∷ 0 ∷ []) [] ≡ some (bytes "POINT EMPTY")
+unfolding all
+empty-text = refl
+
+pub edge-written : EdgeWritten
+unfolding edges All flatRows flatSpans flatMap
+edge-written ns ms a ns′ ms′ n m r room w bs h x =
+    let l = reads-edges .1 .1 .1 .1 .1 .1 .1 .1 .0 ns ms a ns′ ms′ n m r in
+    let un : usedNodes a ns′ ≡ 1 ∷ 0 ∷ 1 ∷ [] = rw (l .answer, l .nodes) (used-rows (row kindPoint dimXY 1 ∷ []) (length ns)) in
+    let um : usedNumbers a ms′ ≡ 7 ∷ 2 ∷ 11 ∷ 2 ∷ [] = rw (l .answer, l .numbers) (used-spans (span 7 2 (bytes "+4") ∷ span 11 2 (bytes "-4") ∷ []) (length ms)) in
+    let c : canonical point (usedNodes a ns′) (usedNumbers a ms′) ≡ some (bytes "POINT(++4 -4)") = rw (un, um) point-text in
+    (x .answer ∙ ap (λ o. write.answerOf o room) c ∙ rw (le-leb 13 room h), x .bytes ∙ ap (λ o. write.roomAfter o room) c ∙ rw (le-leb 13 room h))

@@ -1,0 +1,90 @@
+-- Demand 2, over the u32 slices as `read` sees them: a text is read to the tree that it is, within the limits, and else refused.
+-- The theorems that give these are in proofs/Demand2.
+use mathlib.Core.Path.{_≡_}
+use mathlib.Core.Logic.{_⊎_, _↔_}
+use mathlib.Core.List.{List}
+use Prim.Native.Nat.{ℕ, _≤_}
+use lib.ListN.{length}
+use Rattle.scan.specs.Text.{bytes}
+use Rattle.names.specs.Kinds.{kindMultiPoint, dimXY}
+use Rattle.store.specs.Rows.{row, rowAt, partsAt, startAt, nodeRoom, numberRoom, flatRows, padded}
+use Rattle.grammar.specs.Lists.{All}
+use Rattle.grammar.specs.Answers.{Passes}
+use Rattle.grammar.specs.Edges.{Edge, reads, edges}
+use Rattle.grammar.specs.Tree.{Tree, Shape, rows, texts}
+use Rattle.grammar.specs.Whole.{depthLimit}
+use Rattle.wkt.specs.declared.ReadAnswer.{ReadAnswer}
+use Rattle.wkt.specs.Whole.{Leaves, rootIn}
+use Rattle.to_wkt.specs.declared.WriteAnswer.{WriteAnswer}
+use Rattle.to_wkt.specs.Write.{accepted, Written}
+use Rattle.bridge.specs.Rows.{allTexts}
+use Rattle.demands.specs.Calls.{Read, usedNodes, usedNumbers}
+
+-- the reader is the grammar: what it answers and leaves is what the grammar's root reads the text's tokens to, if the text passes 1 and 2
+abbrev pub ReadsAsGrammar : Type 0
+ReadsAsGrammar = (text ns ms : List ℕ) (a : ReadAnswer) (ns′ ms′ : List ℕ) → Passes text → Read text ns ms a ns′ ms′ ↔ Leaves (rootIn (nodeRoom ns) (numberRoom ms) text) ns ms a ns′ ms′
+
+-- the store of an accepted reading is one tree's: its rows, its number texts, and as many as it has
+pub record IsTheTree (text : List ℕ) (a : ReadAnswer) (ns′ ms′ : List ℕ) : Type 0 where
+  pub tree : Tree depthLimit
+  pub shape : Shape depthLimit tree
+  pub nodes : a .nodes ≡ length (rows depthLimit tree)
+  pub numbers : a .numbers ≡ length (texts depthLimit tree)
+  pub its-rows : usedNodes a ns′ ≡ flatRows (rows depthLimit tree)
+  pub its-texts : allTexts text (usedNumbers a ms′) ≡ texts depthLimit tree
+
+-- "made-up node or number counts, by demand 2's tree" (as an edit of the code: wkt/made_up_count)
+abbrev pub Counted : Type 0
+Counted = (text ns ms : List ℕ) (a : ReadAnswer) (ns′ ms′ : List ℕ) → Read text ns ms a ns′ ms′ → a .number ≡ 0 → IsTheTree text a ns′ ms′
+
+-- ---- the inputs at the edges, each read into any slices with the edge's rooms, whatever they hold
+abbrev pub ReadsEdge : Edge → Type 0
+ReadsEdge (reads N M text g) = (ns ms : List ℕ) (a : ReadAnswer) (ns′ ms′ : List ℕ) → nodeRoom ns ≡ N → numberRoom ms ≡ M → Read text ns ms a ns′ ms′ → Leaves g ns ms a ns′ ms′
+
+abbrev pub EveryEdge : Type 0
+EveryEdge = All ReadsEdge edges
+
+-- "`POINT(++4 +-4)`: [..] written `POINT(++4 -4)`"
+abbrev pub EdgeWritten : Type 0
+EdgeWritten =
+    (ns ms : List ℕ) (a : ReadAnswer) (ns′ ms′ : List ℕ) → nodeRoom ns ≡ 40 → numberRoom ms ≡ 9 → Read (bytes "POINT(++4 +-4)") ns ms a ns′ ms′ →
+    (room : ℕ) (r : WriteAnswer) (out : List ℕ) → 13 ≤ room → Written (bytes "POINT(++4 +-4)") (usedNodes a ns′) (usedNumbers a ms′) room r out →
+    (r ≡ accepted 13) × (out ≡ padded (bytes "POINT(++4 -4)") room)
+
+-- ---- what is shut out
+-- what a call leaves; a reader, as a function of the text and the two slices lent; one that meets the contract of `read`
+pub record Left : Type 0 where
+  pub answer : ReadAnswer
+  pub nodes : List ℕ
+  pub numbers : List ℕ
+
+abbrev pub Reader : Type 0
+Reader = List ℕ → List ℕ → List ℕ → Left
+
+abbrev pub Meets : Reader → Type 0
+Meets f = (text ns ms : List ℕ) → Read text ns ms (f text ns ms .answer) (f text ns ms .nodes) (f text ns ms .numbers)
+
+-- there is one, and only one
+abbrev pub OneReader : Type 0
+OneReader = ((f : Reader) × Meets f) × ((f g : Reader) → Meets f → Meets g → (text ns ms : List ℕ) → f text ns ms ≡ g text ns ms)
+
+-- "A reader that refuses everything" (as an edit of the code: wkt/refuses_all)
+abbrev pub RefusesAll : Reader → Type 0
+RefusesAll f = (text ns ms : List ℕ) → f text ns ms .answer .number ≡ 0 → ⊥
+
+-- "or returns one fixed tree": the same node rows whenever it accepts
+abbrev pub FixedTree : Reader → Type 0
+FixedTree f =
+    (text ns ms text′ ns′ ms′ : List ℕ) → f text ns ms .answer .number ≡ 0 → f text′ ns′ ms′ .answer .number ≡ 0 →
+    usedNodes (f text ns ms .answer) (f text ns ms .nodes) ≡ usedNodes (f text′ ns′ ms′ .answer) (f text′ ns′ ms′ .nodes)
+
+-- "a reader that fills only the first child and repeats it" (wkt/first_child_again): an accepted multipoint's second point is left without parts,
+-- or has the first one's X
+abbrev pub FirstChildOnly : Reader → Type 0
+FirstChildOnly f =
+    (text ns ms : List ℕ) → f text ns ms .answer .number ≡ 0 → rowAt (f text ns ms .nodes) 0 ≡ row kindMultiPoint dimXY 2 →
+    (partsAt (f text ns ms .nodes) 2 ≡ 0) ⊎ (startAt (f text ns ms .numbers) 2 ≡ startAt (f text ns ms .numbers) 0)
+
+-- "is shut out by demand 2"
+abbrev pub ShutsOut : (Reader → Type 0) → Type 0
+ShutsOut Bad = (f : Reader) → Meets f → Bad f → ⊥

@@ -1,0 +1,87 @@
+-- "The place is the start of the token at fault (a `+` counts as its start); for "no token", the NUL or the text's length.": which tokens
+-- can be at fault for which number, as one table (document 01, "Reading" and "Refusal numbers").
+use mathlib.Core.Path.{_≡_}
+use mathlib.Core.Bool.{true, false}
+use mathlib.Core.Logic.{_⊎_}
+use mathlib.Core.List.{List}
+use Prim.Native.Nat.{ℕ, zero, suc, _<_}
+use lib.ListN.{length, getD}
+use Rattle.limits.specs.Limits.{textLimit, overLimit}
+use Rattle.scan.specs.Bytes.{nul, parenOpen, parenClose, comma, isAscii, isInner, isNumberlike}
+use Rattle.scan.specs.Front.{part}
+use Rattle.utf8.specs.Utf8.{isUtf8, firstIll}
+use Rattle.names.specs.declared.Name.{Name}
+use Rattle.names.specs.declared.Ending.{Ending}
+use Rattle.names.specs.Lists.{every}
+use Rattle.names.specs.Names.{meaning, ending, isEmptyWord}
+use Rattle.tokenizer.specs.Tokens.{textStart, endOf}
+use Rattle.tokenizer.specs.Stream.{open-tk, close-tk, comma-tk, none-tk, bad-tk, word-tk, number-tk, Tok, tok, Str, hd, tl, toks}
+use Rattle.grammar.specs.Answers.{Passes}
+use Rattle.grammar.specs.Grammar.{isEmptyTok}
+use Rattle.grammar.specs.Tokens.{sortBad, sortOpen, sortClose, sortNumber, sortWord, sortOf, placeOf, textOf}
+
+-- neither a bad number nor of the sort that was asked for
+abbrev pub Other : ℕ → Tok → Type 0
+Other sort t = (sortOf t ≡ sortBad → ⊥) × (sortOf t ≡ sort → ⊥)
+
+pub data AtFault (t : Tok) : ℕ → Type 0 where
+  -- "a node [..] needs a row and none is free | its token; bare point: the next token": `(`, EMPTY, or whatever stands there
+  no-node : AtFault t 3
+  -- "a number needs a row and none is free | its token"
+  no-number : sortOf t ≡ sortNumber → AtFault t 4
+  -- "a 33rd open collection | its `(`"
+  too-deep : sortOf t ≡ sortOpen → AtFault t 5
+  -- "A bad number that is taken gives 6."
+  bad-number : sortOf t ≡ sortBad → AtFault t 6
+  -- "Root: a word. A non-ASCII word is refused 7; a bad number 6; no token or any other token 8."
+  not-ascii : sortOf t ≡ sortWord → every isAscii (textOf t) ≡ false → AtFault t 7
+  no-root : Other sortWord t → AtFault t 8
+  -- "Words are compared with the seven names [..]. Else refusal 9."
+  no-name : sortOf t ≡ sortWord → meaning (textOf t) ≡ Name.Unknown → AtFault t 9
+  -- "No token or a bad number: 10. [..] Another word: 11."
+  no-header : sortOf t < sortOpen → AtFault t 10
+  no-ending : sortOf t ≡ sortWord → ending (textOf t) ≡ Ending.No → isEmptyWord (textOf t) ≡ false → AtFault t 11
+  -- "`EMPTY` gives no parts. Not `(`: 12." "anything but `)` gives 13"
+  not-opened : Other sortOpen t → isEmptyTok t ≡ false → AtFault t 12
+  not-closed : Other sortClose t → AtFault t 13
+  -- "X, Y, then Z, M as the dimension asks (14, 15, 16, 17)."
+  no-x : Other sortNumber t → AtFault t 14
+  no-y : Other sortNumber t → AtFault t 15
+  no-z : Other sortNumber t → AtFault t 16
+  no-m : Other sortNumber t → AtFault t 17
+  -- "Collection: a word (else 18)"
+  no-child : Other sortWord t → AtFault t 18
+
+-- the tokens of a stream behind the first n
+abbrev pub later : ℕ → Str → Str
+later zero s = s
+later (suc n) s = tl (later n s)
+
+-- t is one of the tokens of a stream
+pub record Among (s : Str) (t : Tok) : Type 0 where
+  pub index : ℕ
+  pub is : hd (later index s) ≡ t
+
+-- ---- where a token stands
+abbrev pub ByteAt : List ℕ → ℕ → ℕ → Type 0
+ByteAt text p b = (p < length text) × (getD text p 0 ≡ b)
+
+-- at its place a token starts: a mark is the byte there; a number or a bad number has its first byte there, be it a `+` that is dropped from the
+-- kept text; a word has its bytes from there on; "for "no token", the NUL or the text's length"
+abbrev pub Starts : List ℕ → Tok → Type 0
+Starts text (tok p none-tk) = (p ≡ length text) ⊎ ByteAt text p nul
+Starts text (tok p (bad-tk r)) = isNumberlike (getD text p 0) ≡ true
+Starts text (tok p open-tk) = ByteAt text p parenOpen
+Starts text (tok p close-tk) = ByteAt text p parenClose
+Starts text (tok p comma-tk) = ByteAt text p comma
+Starts text (tok p (number-tk q x)) = (isNumberlike (getD text p 0) ≡ true) × (q ≡ textStart text p) × (x ≡ part text q (endOf text q))
+Starts text (tok p (word-tk w)) = (isInner (getD text p 0) ≡ true) × (isNumberlike (getD text p 0) ≡ false) × (w ≡ part text p (endOf text p))
+
+abbrev pub TokensStart : Type 0
+TokensStart = (text : List ℕ) (t : Tok) → Among (toks text 0) t → Starts text t
+
+-- ---- "Place", by number
+pub data PlaceOf (text : List ℕ) : ℕ → ℕ → Type 0 where
+  over-limit : overLimit (length text) ≡ true → PlaceOf text 1 textLimit
+  ill-formed : overLimit (length text) ≡ false → isUtf8 text ≡ false → PlaceOf text 2 (firstIll text)
+  at-fault : {e : ℕ} (t : Tok) → Passes text → Among (toks text 0) t → AtFault t e → PlaceOf text e (placeOf t)

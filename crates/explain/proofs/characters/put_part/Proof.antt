@@ -1,0 +1,71 @@
+-- `put_part` is safe and ends: each character begins behind the one before it.
+-- Assumes nothing.
+use borrow.Author.Needs.{needs}
+use Rattle.explain.proofs.characters.put_part.Statement.{statement}
+use Rattle.explain.proofs.characters.put_part.Tie as tie
+use mathlib.Core.Path.{_≡_}
+use Prim.Native.Nat.{_≤_, _-_}
+use native.Mathlib.Omega.{arith}
+use lib.ListN.{length}
+use Rattle.explain.proofs.Turns.{next-after, next-within}
+
+abbrev Inv-loop : tie.InvT-loop
+Inv-loop out₀ at part under end₀ i₀ out end i = (length out ≡ length out₀) × (i ≤ length part)
+
+abbrev μ-loop : tie.MeasureT-loop
+μ-loop out₀ at part under end₀ i₀ out end i = length part - i
+
+loop-holds : tie.Need-loop-holds Inv-loop μ-loop
+loop-holds c = search needs
+
+add-next-begin : tie.Need-add-next-begin Inv-loop μ-loop
+add-next-begin c = search needs
+
+next-begin-requires : tie.Need-next-begin-requires Inv-loop μ-loop
+next-begin-requires c κs = search needs
+
+sub-bytes : tie.Need-sub-bytes Inv-loop μ-loop
+sub-bytes c = omega (arith, next-after _ _ _ (search needs) (c .next-begin .ensures .0))
+
+part-bytes-start : tie.Need-part-bytes-start Inv-loop μ-loop
+part-bytes-start c = omega (arith, next-after _ _ _ (search needs) (c .next-begin .ensures .0))
+
+part-bytes-end : tie.Need-part-bytes-end Inv-loop μ-loop
+part-bytes-end c = omega (arith, next-within _ _ _ (c .next-begin .ensures .0))
+
+put-for-requires : tie.Need-put-for-requires Inv-loop μ-loop
+put-for-requires c κs = search needs
+
+put-one-requires : tie.Need-put-one-requires Inv-loop μ-loop
+put-one-requires c κs = search needs
+
+loop-less : tie.Need-loop-less Inv-loop μ-loop
+loop-less c = omega (arith, next-after _ _ _ (search needs) (c .before .before .before .before .before .before .next-begin .ensures .0), next-within _ _ _ (c .before .before .before .before .before .before .next-begin .ensures .0))
+
+loop-again : tie.Need-loop-again Inv-loop μ-loop
+loop-again c = (search needs, next-within _ _ _ (c .before .before .before .before .before .before .next-begin .ensures .0))
+
+same-length : tie.Need-same-length Inv-loop μ-loop
+same-length c = search needs
+
+returns : tie.Need-returns Inv-loop μ-loop
+returns c = search needs
+
+pub put-part-spec : {M : Type 1} → statement M
+put-part-spec =
+    tie.close
+    (tie.spec
+    Inv-loop
+    μ-loop
+    loop-holds
+    add-next-begin
+    next-begin-requires
+    sub-bytes
+    part-bytes-start
+    part-bytes-end
+    put-for-requires
+    put-one-requires
+    loop-less
+    loop-again
+    same-length
+    returns)

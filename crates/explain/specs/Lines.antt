@@ -1,0 +1,31 @@
+-- Lines and characters of a text, by their places.
+use Prim.Native.Nat.{ℕ, zero, suc}
+use mathlib.Core.Bool.{Bool, cond, not, _||_, _&&_}
+use mathlib.Core.List.{List}
+use lib.Dec.{eqb, ltb, leb}
+use lib.ListN.{length, getD}
+
+-- LF and CR end a line
+abbrev pub isBreak : ℕ → Bool
+isBreak b = eqb b 10 || eqb b 13
+
+abbrev pub isInLine : ℕ → Bool
+isInLine b = not (isBreak b)
+
+-- a character of UTF-8 goes on with the bytes 80 to BF, and begins with any other
+abbrev pub goesOn : ℕ → Bool
+goesOn b = leb 128 b && ltb b 192
+
+-- where the line begins that the byte before place p stands in: behind the last line end before p, or at 0
+unfoldable pub lineStart : List ℕ → ℕ → ℕ
+lineStart text zero = 0
+lineStart text (suc p) = cond (isBreak (getD text p 0)) (suc p) (lineStart text p)
+
+-- where the first p bytes end without the line ends behind them
+unfoldable pub trimmed : List ℕ → ℕ → ℕ
+trimmed text zero = 0
+trimmed text (suc p) = cond (isBreak (getD text p 0)) (trimmed text p) (suc p)
+
+-- the place that is shown: that of the text's end is behind its last line, as a line end there begins no line
+unfoldable pub shownPlace : List ℕ → ℕ → ℕ
+shownPlace text place = cond (ltb place (length text)) place (trimmed text (length text))

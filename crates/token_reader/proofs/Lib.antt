@@ -1,0 +1,2 @@
+pub mod Reader
+mod Loan

@@ -1,0 +1,142 @@
+/*
+ * Calls every entry of doorhollow.h, and compares answers and slices. It
+ * compiles as C99 and as C++. It prints what is wrong and stops with status 1.
+ */
+#include <stdio.h>
+#include <string.h>
+
+#include "doorhollow.h"
+
+static int failures = 0;
+
+static void expect(int holds, const char *what)
+{
+    if (!holds) {
+        fprintf(stderr, "test_faces: %s\n", what);
+        failures++;
+    }
+}
+
+static const uint8_t *bytes(const char *text)
+{
+    return (const uint8_t *)text;
+}
+
+static int is(const uint64_t *answer, uint64_t a, uint64_t b, uint64_t c, uint64_t d)
+{
+    return answer[0] == a && answer[1] == b && answer[2] == c && answer[3] == d;
+}
+
+static int same(const uint32_t *rows, const uint32_t *expected, size_t count)
+{
+    return memcmp(rows, expected, count * sizeof *rows) == 0;
+}
+
+static int is_zero(const void *at, size_t count)
+{
+    const uint8_t *b = (const uint8_t *)at;
+
+    while (count > 0) {
+        if (*b++ != 0)
+            return 0;
+        count--;
+    }
+    return 1;
+}
+
+/* `MULTIPOINT((1 2),3 4)`: its rows, its canonical text, the strict check. */
+static void test_store(void)
+{
+    static const uint32_t node_rows[9] = {4, 0, 2, 1, 0, 1, 1, 0, 1};
+    static const uint32_t number_rows[8] = {12, 1, 14, 1, 17, 1, 19, 1};
+    const char *text = "MULTIPOINT((1 2),3 4)";
+    uint32_t nodes[12], numbers[11];
+    uint8_t out[24];
+    uint64_t answer[DOORHOLLOW_ANSWER_PLACES];
+
+    memset(nodes, 255, sizeof nodes);
+    memset(numbers, 255, sizeof numbers);
+    memset(out, 255, sizeof out);
+    memset(answer, 255, sizeof answer);
+    doorhollow_read(bytes(text), strlen(text), nodes, 12, numbers, 11, answer);
+    expect(is(answer, DOORHOLLOW_OK, 0, 3, 4), "read: the answer");
+    expect(same(nodes, node_rows, 9) && is_zero(nodes + 9, 3 * sizeof *nodes), "read: the nodes");
+    expect(same(numbers, number_rows, 8) && is_zero(numbers + 8, 3 * sizeof *numbers), "read: the numbers");
+
+    doorhollow_write(bytes(text), strlen(text), nodes, 9, numbers, 8, out, sizeof out, answer);
+    expect(is(answer, DOORHOLLOW_OK, 0, 23, 0), "write: the answer");
+    expect(memcmp(out, "MULTIPOINT((1 2),(3 4))", 24) == 0, "write: the text and a zero behind it");
+    doorhollow_write(bytes(text), strlen(text), nodes, 9, numbers, 8, out, 22, answer);
+    expect(is(answer, DOORHOLLOW_NO_ROOM, 0, 0, 0), "write: no room");
+    expect(is_zero(out, 22) && out[22] == ')', "write: all of the room is zero, and no more");
+    doorhollow_write(bytes(text), strlen(text), nodes, 10, numbers, 8, out, sizeof out, answer);
+    expect(is(answer, DOORHOLLOW_ILL_FORMED_STORE, 0, 0, 0), "write: an ill-formed store");
+    expect(is_zero(out, sizeof out), "write: all of the room is zero after an ill-formed store");
+
+    doorhollow_strict(bytes(text), strlen(text), nodes, 9, numbers, 8, answer);
+    expect(is(answer, DOORHOLLOW_OK, 0, 0, 0), "strict: nothing fails");
+    doorhollow_strict(bytes(text), strlen(text), nodes, 9, numbers, 7, answer);
+    expect(is(answer, DOORHOLLOW_ILL_FORMED_STORE, 0, 0, 0), "strict: an ill-formed store");
+}
+
+static void test_refusals(void)
+{
+    const char *text = "POINT(1 x)";
+    uint32_t nodes[6], numbers[5];
+    uint64_t answer[DOORHOLLOW_ANSWER_PLACES];
+    static uint8_t longer[DOORHOLLOW_TEXT_LIMIT + 1];
+
+    memset(nodes, 255, sizeof nodes);
+    memset(numbers, 255, sizeof numbers);
+    doorhollow_read(bytes(text), strlen(text), nodes, 6, numbers, 5, answer);
+    expect(is(answer, DOORHOLLOW_NO_Y, 8, 0, 0), "read: no Y");
+    expect(is_zero(nodes, sizeof nodes) && is_zero(numbers, sizeof numbers), "read: zero after a refusal");
+    doorhollow_read(bytes("POINT(1 2)"), 10, nodes, 2, numbers, 5, answer);
+    expect(is(answer, DOORHOLLOW_NO_NODE_ROW, 5, 0, 0), "read: no node row");
+    doorhollow_read(bytes("POINT(1 2)"), 10, nodes, 6, numbers, 3, answer);
+    expect(is(answer, DOORHOLLOW_NO_NUMBER_ROW, 8, 0, 0), "read: no number row");
+    doorhollow_read(bytes("POINT(1 2)\xFF"), 11, nodes, 6, numbers, 5, answer);
+    expect(is(answer, DOORHOLLOW_ILL_FORMED_UTF8, 10, 0, 0), "read: ill-formed UTF-8");
+    doorhollow_read(bytes("GEOMETRYCOLLECTION(\xE4\xBA\xAC(1 2))"), 29, nodes, 6, numbers, 5, answer);
+    expect(is(answer, DOORHOLLOW_NOT_CLOSED, 22, 0, 0), "read: a name that isn't ASCII");
+    doorhollow_read(bytes(""), 0, nodes, 0, numbers, 0, answer);
+    expect(is(answer, DOORHOLLOW_NO_ROOT, 0, 0, 0), "read: nothing at all");
+    memset(longer, ' ', sizeof longer);
+    doorhollow_read(longer, sizeof longer, nodes, 6, numbers, 5, answer);
+    expect(is(answer, DOORHOLLOW_TOO_LONG, DOORHOLLOW_TEXT_LIMIT, 0, 0), "read: too long");
+    doorhollow_read(longer, sizeof longer - 1, nodes, 6, numbers, 5, answer);
+    expect(is(answer, DOORHOLLOW_NO_ROOT, DOORHOLLOW_TEXT_LIMIT, 0, 0), "read: blanks only");
+}
+
+static void test_strict(void)
+{
+    const char *text = "POLYGON((0 0,1 0,1 1,0 1))";
+    uint32_t nodes[6], numbers[16];
+    uint64_t answer[DOORHOLLOW_ANSWER_PLACES];
+
+    doorhollow_read(bytes(text), strlen(text), nodes, 6, numbers, 16, answer);
+    expect(is(answer, DOORHOLLOW_OK, 0, 2, 8), "read: a polygon");
+    doorhollow_strict(bytes(text), strlen(text), nodes, 6, numbers, 16, answer);
+    expect(answer[DOORHOLLOW_LETTER] == 'C' && answer[DOORHOLLOW_ROW] == 1, "strict: a ring that isn't closed");
+}
+
+static void test_infer_type(void)
+{
+    uint64_t answer[DOORHOLLOW_ANSWER_PLACES];
+
+    doorhollow_infer_type(bytes("multipoint zm ("), 15, answer);
+    expect(is(answer, DOORHOLLOW_OK, 0, DOORHOLLOW_MULTIPOINT, DOORHOLLOW_XYZM), "infer_type: MULTIPOINT ZM");
+    doorhollow_infer_type(bytes("POINTEMPTY"), 10, answer);
+    expect(is(answer, DOORHOLLOW_EMPTY_WITHOUT_SPACE, 0, 0, 0), "infer_type: no space");
+    doorhollow_infer_type(bytes("POINT EMPTY\xE4\xBA\xAC"), 14, answer);
+    expect(is(answer, DOORHOLLOW_NON_ASCII, 11, 0, 0), "infer_type: not ASCII");
+}
+
+int main(void)
+{
+    test_store();
+    test_refusals();
+    test_strict();
+    test_infer_type();
+    return failures > 0;
+}

@@ -1,0 +1,157 @@
+/*
+ * Doorhollow: a reader and canonical writer of well-known text (WKT).
+ *
+ * The functions stand in libwkt_c.a, which `rt staticlib wkt_c` proves and
+ * writes. Nothing is allocated and nothing is kept: a call looks at what it is
+ * lent, fills what it is lent, and is done. Any number of threads may call, as
+ * long as none of them writes to what another one's call was lent.
+ *
+ * A slice goes as a pointer to its first element and the count of its elements.
+ * What the caller owes, and nothing tests:
+ *   - the pointer isn't NULL, also where the count is 0, and that many
+ *     elements lie behind it;
+ *   - what a call writes to overlaps nothing else that the same call is lent.
+ * All else is tested: any bytes may be given as text, and any rows as a store.
+ *
+ * An answer goes into four places that the caller lends. The first is the
+ * number: DOORHOLLOW_OK, or that of a refusal. What else an entry answers is
+ * said at the entry. After a refusal everything after the place is 0.
+ */
+#ifndef DOORHOLLOW_H
+#define DOORHOLLOW_H
+
+#include <stddef.h>
+#include <stdint.h>
+
+#ifdef __cplusplus
+extern "C" {
+#endif
+
+/* The most bytes that a text may have, and the most collections that may be open. */
+#define DOORHOLLOW_TEXT_LIMIT 65535
+#define DOORHOLLOW_DEPTH_LIMIT 32
+
+/* The places of an answer, and how many there are. */
+#define DOORHOLLOW_ANSWER_PLACES 4
+#define DOORHOLLOW_NUMBER 0      /* every entry */
+#define DOORHOLLOW_PLACE 1       /* read, write, infer_type */
+#define DOORHOLLOW_NODE_COUNT 2  /* read */
+#define DOORHOLLOW_NUMBER_COUNT 3
+#define DOORHOLLOW_LENGTH 2      /* write */
+#define DOORHOLLOW_LETTER 1      /* strict */
+#define DOORHOLLOW_ROW 2
+#define DOORHOLLOW_INFERRED_KIND 2 /* infer_type */
+#define DOORHOLLOW_INFERRED_DIMENSION 3
+
+/*
+ * A node is a row of three: kind, dimension, parts. A row's children follow it.
+ * The parts of a point or a line string are its coordinates, of any other kind
+ * its children. A number is a row of two: start and length of its text.
+ */
+#define DOORHOLLOW_NODE_WIDTH 3
+#define DOORHOLLOW_KIND 0
+#define DOORHOLLOW_DIMENSION 1
+#define DOORHOLLOW_PARTS 2
+#define DOORHOLLOW_NUMBER_WIDTH 2
+#define DOORHOLLOW_START 0
+#define DOORHOLLOW_TEXT_LENGTH 1
+
+/* Kinds. */
+#define DOORHOLLOW_POINT 1
+#define DOORHOLLOW_LINESTRING 2
+#define DOORHOLLOW_POLYGON 3
+#define DOORHOLLOW_MULTIPOINT 4
+#define DOORHOLLOW_MULTILINESTRING 5
+#define DOORHOLLOW_MULTIPOLYGON 6
+#define DOORHOLLOW_GEOMETRYCOLLECTION 7
+
+/* Dimensions. A coordinate has 2, 3, 3 or 4 numbers. */
+#define DOORHOLLOW_XY 0
+#define DOORHOLLOW_XYZ 1
+#define DOORHOLLOW_XYM 2
+#define DOORHOLLOW_XYZM 3
+
+/* The refusals. Those of the Rust crate wkt have its message beside them. */
+#define DOORHOLLOW_OK 0
+#define DOORHOLLOW_TOO_LONG 1            /* more than DOORHOLLOW_TEXT_LIMIT bytes */
+#define DOORHOLLOW_ILL_FORMED_UTF8 2     /* place: where no whole character starts */
+#define DOORHOLLOW_NO_NODE_ROW 3         /* a node needs a row and none is free */
+#define DOORHOLLOW_NO_NUMBER_ROW 4       /* a number needs a row and none is free */
+#define DOORHOLLOW_TOO_DEEP 5            /* one collection more than DOORHOLLOW_DEPTH_LIMIT */
+#define DOORHOLLOW_BAD_NUMBER 6          /* Unable to parse input number as the desired output type */
+#define DOORHOLLOW_NON_ASCII_ROOT 7      /* Encountered non-ascii word */
+#define DOORHOLLOW_NO_ROOT 8             /* Invalid WKT format */
+#define DOORHOLLOW_UNKNOWN_NAME 9        /* Invalid type encountered */
+#define DOORHOLLOW_NO_HEADER 10          /* End of stream */
+#define DOORHOLLOW_UNKNOWN_HEADER 11     /* Unexpected word before open paren */
+#define DOORHOLLOW_NOT_OPENED 12         /* Missing open parenthesis for type */
+#define DOORHOLLOW_NOT_CLOSED 13         /* Missing closing parenthesis for type */
+#define DOORHOLLOW_NO_X 14               /* Expected a number for the X coordinate */
+#define DOORHOLLOW_NO_Y 15               /* Expected a number for the Y coordinate */
+#define DOORHOLLOW_NO_Z 16               /* Expected a number for the Z coordinate */
+#define DOORHOLLOW_NO_M 17               /* Expected a number for the M coordinate */
+#define DOORHOLLOW_NO_CHILD 18           /* Expected a word in GEOMETRYCOLLECTION */
+#define DOORHOLLOW_UNSUPPORTED_NAME 19   /* Unsupported WKT prefix, and the prefix */
+#define DOORHOLLOW_EMPTY_WITHOUT_SPACE 20 /* Invalid WKT; no whitespace between geometry type and EMPTY. */
+#define DOORHOLLOW_NEITHER_PAREN_NOR_EMPTY 21 /* Invalid WKT; no '(' character and not EMPTY */
+#define DOORHOLLOW_ILL_FORMED_STORE 22   /* write, strict: the rows aren't a well-formed store */
+#define DOORHOLLOW_NO_ROOM 23            /* write: the canonical text is longer than the room */
+#define DOORHOLLOW_NON_ASCII 24          /* infer_type: a byte that isn't ASCII in the part looked at */
+
+/*
+ * Reads the geometry that a text begins with into rows of both slices. The
+ * room is node_places / 3 node rows and number_places / 2 number rows. Of
+ * either, half as many rows as the text has bytes are always enough.
+ *
+ * answer: number, place, count of node rows, count of number rows.
+ * Every place of both slices after the used rows is 0, and after a refusal
+ * every place. Refusals 1 to 18.
+ */
+void doorhollow_read(const uint8_t *text, size_t text_length,
+                     uint32_t *nodes, size_t node_places,
+                     uint32_t *numbers, size_t number_places,
+                     uint64_t answer[DOORHOLLOW_ANSWER_PLACES]);
+
+/*
+ * Writes the canonical text of a store, which is lent with its used rows only:
+ * node_places is 3 times the count of the nodes, number_places 2 times that of
+ * the numbers. No NUL is put behind the text.
+ *
+ * answer: number, place, count of bytes written, 0.
+ * Every byte of the room after the text is 0, and after a refusal every byte.
+ * Refusals 22 and 23, with place 0.
+ */
+void doorhollow_write(const uint8_t *text, size_t text_length,
+                      const uint32_t *nodes, size_t node_places,
+                      const uint32_t *numbers, size_t number_places,
+                      uint8_t *out, size_t room,
+                      uint64_t answer[DOORHOLLOW_ANSWER_PLACES]);
+
+/*
+ * Checks a store, lent as for doorhollow_write, by the strict rules: A, a line
+ * string that isn't empty has 2 coordinates or more; B, a ring that isn't empty
+ * has 4 or more; C, it ends with the number texts that it starts with; D, a
+ * collection's children have its dimension.
+ *
+ * answer: number, letter, node row, 0. Letter and row are those of the first
+ * rule that fails in the order of the rows, the letter as an ASCII byte; both
+ * are 0 where none fails. Refusal 22.
+ */
+void doorhollow_strict(const uint8_t *text, size_t text_length,
+                       const uint32_t *nodes, size_t node_places,
+                       const uint32_t *numbers, size_t number_places,
+                       uint64_t answer[DOORHOLLOW_ANSWER_PLACES]);
+
+/*
+ * The kind and the dimension that the front of a text names.
+ *
+ * answer: number, place, kind, dimension. Refusals 1, 2, 19 to 21 and 24.
+ */
+void doorhollow_infer_type(const uint8_t *text, size_t text_length,
+                           uint64_t answer[DOORHOLLOW_ANSWER_PLACES]);
+
+#ifdef __cplusplus
+}
+#endif
+
+#endif

@@ -1,0 +1,130 @@
+//! The calls of the proved library: all that is unsafe stands here.
+use crate::{Dimension, Fault, Kind, Refusal};
+
+/// How many places of a slice a node's row takes: kind, dimension, parts.
+pub const NODE_WIDTH: usize = 3;
+
+/// How many places of a slice a number's row takes: start and length of its text.
+pub const NUMBER_WIDTH: usize = 2;
+
+const ANSWER_PLACES: usize = 4;
+
+type Answer = [u64; ANSWER_PLACES];
+
+extern "C" {
+    fn doorhollow_read(
+        text: *const u8,
+        text_length: usize,
+        nodes: *mut u32,
+        node_places: usize,
+        numbers: *mut u32,
+        number_places: usize,
+        answer: *mut Answer,
+    );
+
+    fn doorhollow_write(
+        text: *const u8,
+        text_length: usize,
+        nodes: *const u32,
+        node_places: usize,
+        numbers: *const u32,
+        number_places: usize,
+        out: *mut u8,
+        room: usize,
+        answer: *mut Answer,
+    );
+
+    fn doorhollow_strict(
+        text: *const u8,
+        text_length: usize,
+        nodes: *const u32,
+        node_places: usize,
+        numbers: *const u32,
+        number_places: usize,
+        answer: *mut Answer,
+    );
+
+    fn doorhollow_infer_type(text: *const u8, text_length: usize, answer: *mut Answer);
+}
+
+// The number and the place stand in front of every answer but that of the strict check, which has no place.
+fn accepted(answer: Answer) -> Result<Answer, Refusal> {
+    match answer[0] {
+        0 => Ok(answer),
+        number => Err(Refusal { number: number as u32, place: answer[1] as usize }),
+    }
+}
+
+/// The counts of the used rows.
+pub(crate) fn read(text: &[u8], nodes: &mut [u32], numbers: &mut [u32]) -> Result<(usize, usize), Refusal> {
+    let mut answer = [0; ANSWER_PLACES];
+    // SAFETY: each pointer and length is a slice's, the answer has its four places, and none of the slices that are
+    // written overlaps another one, as each is borrowed for itself.
+    unsafe {
+        doorhollow_read(
+            text.as_ptr(),
+            text.len(),
+            nodes.as_mut_ptr(),
+            nodes.len(),
+            numbers.as_mut_ptr(),
+            numbers.len(),
+            &mut answer,
+        );
+    }
+    accepted(answer).map(|answer| (answer[2] as usize, answer[3] as usize))
+}
+
+/// Writes the canonical text of rows into a room, and answers how many bytes it has. The rows are the used ones only.
+/// What lies after the text is zero, and after a refusal, 22 or 23, all of the room.
+pub fn write_rows(text: &[u8], nodes: &[u32], numbers: &[u32], out: &mut [u8]) -> Result<usize, Refusal> {
+    let mut answer = [0; ANSWER_PLACES];
+    // SAFETY: as in `read`.
+    unsafe {
+        doorhollow_write(
+            text.as_ptr(),
+            text.len(),
+            nodes.as_ptr(),
+            nodes.len(),
+            numbers.as_ptr(),
+            numbers.len(),
+            out.as_mut_ptr(),
+            out.len(),
+            &mut answer,
+        );
+    }
+    accepted(answer).map(|answer| answer[2] as usize)
+}
+
+/// Checks rows by the strict rules. `Ok(None)` says that none is broken; refusal 22, that the rows are no store.
+pub fn strict_rows(text: &[u8], nodes: &[u32], numbers: &[u32]) -> Result<Option<Fault>, Refusal> {
+    let mut answer = [0; ANSWER_PLACES];
+    // SAFETY: as in `read`.
+    unsafe {
+        doorhollow_strict(
+            text.as_ptr(),
+            text.len(),
+            nodes.as_ptr(),
+            nodes.len(),
+            numbers.as_ptr(),
+            numbers.len(),
+            &mut answer,
+        );
+    }
+    let [number, letter, row, _] = answer;
+    match (number, letter) {
+        (0, 0) => Ok(None),
+        (0, letter) => Ok(Some(Fault { rule: letter as u8 as char, row: row as usize })),
+        (number, _) => Err(Refusal { number: number as u32, place: 0 }),
+    }
+}
+
+pub(crate) fn infer_type(text: &[u8]) -> Result<(Kind, Dimension), Refusal> {
+    let mut answer = [0; ANSWER_PLACES];
+    // SAFETY: as in `read`.
+    unsafe { doorhollow_infer_type(text.as_ptr(), text.len(), &mut answer) }
+    accepted(answer).map(|answer| {
+        let kind = Kind::from_number(answer[2]).expect("an accepted answer has a kind");
+        let dimension = Dimension::from_number(answer[3]).expect("an accepted answer has a dimension");
+        (kind, dimension)
+    })
+}

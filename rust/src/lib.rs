@@ -1,0 +1,160 @@
+//! A reader and canonical writer of well-known text (WKT) with the answers of the crate wkt 0.14.0, over a library
+//! in which every function is proved.
+//!
+//! ```
+//! let tree = doorhollow::read("MULTIPOINT((1 2),3 4)")?;
+//! assert_eq!(tree.root().kind, doorhollow::Kind::MultiPoint);
+//! assert_eq!(tree.to_wkt(), "MULTIPOINT((1 2),(3 4))");
+//! let second = tree.child(0, 1).unwrap();
+//! assert_eq!(tree.coordinate(second, 0).unwrap().y(), "4");
+//! # Ok::<(), doorhollow::Refusal>(())
+//! ```
+//!
+//! A tree is rows: each node is one, and its children's rows follow it. Nodes are named by the index of their row,
+//! from 0, which is the root. Numbers are parts of the text that was read, and no doubles: parse them as you need.
+#![warn(missing_docs)]
+
+mod calls;
+mod explain;
+mod refusal;
+mod tree;
+
+pub use calls::{strict_rows, write_rows, NODE_WIDTH, NUMBER_WIDTH};
+pub use refusal::Refusal;
+pub use tree::{Children, Coordinate, Coordinates, Node, Tree, Walk};
+
+use std::borrow::Cow;
+use std::fmt;
+
+/// The most bytes that a text may have.
+pub const TEXT_LIMIT: usize = 65_535;
+
+/// The kinds of geometry.
+#[derive(Clone, Copy, Debug, PartialEq, Eq, Hash)]
+#[allow(missing_docs)]
+pub enum Kind {
+    Point = 1,
+    LineString,
+    Polygon,
+    MultiPoint,
+    MultiLineString,
+    MultiPolygon,
+    GeometryCollection,
+}
+
+impl Kind {
+    const ALL: [Kind; 7] = [
+        Kind::Point,
+        Kind::LineString,
+        Kind::Polygon,
+        Kind::MultiPoint,
+        Kind::MultiLineString,
+        Kind::MultiPolygon,
+        Kind::GeometryCollection,
+    ];
+
+    fn from_number(number: u64) -> Option<Kind> {
+        Kind::ALL.into_iter().find(|kind| *kind as u64 == number)
+    }
+
+    /// Whether the parts of such a node are coordinates; those of any other are nodes.
+    pub fn has_coordinates(self) -> bool {
+        matches!(self, Kind::Point | Kind::LineString)
+    }
+}
+
+impl fmt::Display for Kind {
+    fn fmt(&self, f: &mut fmt::Formatter<'_>) -> fmt::Result {
+        f.write_str(match self {
+            Kind::Point => "POINT",
+            Kind::LineString => "LINESTRING",
+            Kind::Polygon => "POLYGON",
+            Kind::MultiPoint => "MULTIPOINT",
+            Kind::MultiLineString => "MULTILINESTRING",
+            Kind::MultiPolygon => "MULTIPOLYGON",
+            Kind::GeometryCollection => "GEOMETRYCOLLECTION",
+        })
+    }
+}
+
+/// Which numbers a coordinate has.
+#[derive(Clone, Copy, Debug, PartialEq, Eq, Hash)]
+#[allow(missing_docs)]
+pub enum Dimension {
+    XY = 0,
+    XYZ,
+    XYM,
+    XYZM,
+}
+
+impl Dimension {
+    const ALL: [Dimension; 4] = [Dimension::XY, Dimension::XYZ, Dimension::XYM, Dimension::XYZM];
+
+    fn from_number(number: u64) -> Option<Dimension> {
+        Dimension::ALL.into_iter().find(|dimension| *dimension as u64 == number)
+    }
+
+    /// How many numbers a coordinate has.
+    pub fn width(self) -> usize {
+        match self {
+            Dimension::XY => 2,
+            Dimension::XYZ | Dimension::XYM => 3,
+            Dimension::XYZM => 4,
+        }
+    }
+}
+
+/// A strict rule that a tree breaks, and the row of the node that breaks it.
+#[derive(Clone, Copy, Debug, PartialEq, Eq)]
+pub struct Fault {
+    /// `A` to `D`.
+    pub rule: char,
+    /// The line string's own row for A, B and C, the child's for D.
+    pub row: usize,
+}
+
+impl fmt::Display for Fault {
+    fn fmt(&self, f: &mut fmt::Formatter<'_>) -> fmt::Result {
+        let rule = match self.rule {
+            'A' => "a line string has fewer than 2 coordinates",
+            'B' => "a ring has fewer than 4 coordinates",
+            'C' => "a ring isn't closed",
+            _ => "a collection's child has another dimension",
+        };
+        write!(f, "{rule} (rule {}, row {})", self.rule, self.row)
+    }
+}
+
+impl std::error::Error for Fault {}
+
+/// Reads the geometry that a text begins with. What follows it is unread.
+pub fn read<T: AsRef<[u8]> + ?Sized>(text: &T) -> Result<Tree<'_>, Refusal> {
+    let text = text.as_ref();
+    // Half as many rows as a text has bytes are enough, and a text over the limit is refused without any.
+    let rows = if text.len() <= TEXT_LIMIT { text.len() / 2 } else { 0 };
+    let mut nodes = vec![0; rows * NODE_WIDTH];
+    let mut numbers = vec![0; rows * NUMBER_WIDTH];
+    let (node_count, number_count) = calls::read(text, &mut nodes, &mut numbers)?;
+    nodes.truncate(node_count * NODE_WIDTH);
+    numbers.truncate(number_count * NUMBER_WIDTH);
+    Ok(Tree::new(text, Cow::Owned(nodes), Cow::Owned(numbers)))
+}
+
+/// Reads into rows that the caller lends, and allocates nothing: `nodes` has room for a third as many nodes as it is
+/// long, `numbers` for half as many numbers. Every place after the used rows is zero, and after a refusal every place.
+pub fn read_into<'a, T: AsRef<[u8]> + ?Sized>(
+    text: &'a T,
+    nodes: &'a mut [u32],
+    numbers: &'a mut [u32],
+) -> Result<Tree<'a>, Refusal> {
+    let text = text.as_ref();
+    let (node_count, number_count) = calls::read(text, nodes, numbers)?;
+    let nodes = &nodes[..node_count * NODE_WIDTH];
+    let numbers = &numbers[..number_count * NUMBER_WIDTH];
+    Ok(Tree::new(text, Cow::Borrowed(nodes), Cow::Borrowed(numbers)))
+}
+
+/// The kind and the dimension that the front of a text names. It looks no further than the first `(`.
+pub fn infer_type<T: AsRef<[u8]> + ?Sized>(text: &T) -> Result<(Kind, Dimension), Refusal> {
+    calls::infer_type(text.as_ref())
+}
