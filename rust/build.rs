@@ -7,7 +7,9 @@ fn main() {
     println!("cargo:rerun-if-env-changed=DOORHOLLOW_LIB_DIR");
     let folder = match env::var_os("DOORHOLLOW_LIB_DIR") {
         Some(named) => PathBuf::from(named),
-        None => PathBuf::from(env::var_os("CARGO_MANIFEST_DIR").unwrap()).join("../target/staticlib"),
+        None => {
+            PathBuf::from(env::var_os("CARGO_MANIFEST_DIR").unwrap()).join("../target/staticlib")
+        }
     };
     let library = folder.join("libwkt_c.a");
     println!("cargo:rerun-if-changed={}", library.display());

@@ -51,12 +51,19 @@ extern "C" {
 fn accepted(answer: Answer) -> Result<Answer, Refusal> {
     match answer[0] {
         0 => Ok(answer),
-        number => Err(Refusal { number: number as u32, place: answer[1] as usize }),
+        number => Err(Refusal {
+            number: number as u32,
+            place: answer[1] as usize,
+        }),
     }
 }
 
 /// The counts of the used rows.
-pub(crate) fn read(text: &[u8], nodes: &mut [u32], numbers: &mut [u32]) -> Result<(usize, usize), Refusal> {
+pub(crate) fn read(
+    text: &[u8],
+    nodes: &mut [u32],
+    numbers: &mut [u32],
+) -> Result<(usize, usize), Refusal> {
     let mut answer = [0; ANSWER_PLACES];
     // SAFETY: each pointer and length is a slice's, the answer has its four places, and none of the slices that are
     // written overlaps another one, as each is borrowed for itself.
@@ -76,7 +83,12 @@ pub(crate) fn read(text: &[u8], nodes: &mut [u32], numbers: &mut [u32]) -> Resul
 
 /// Writes the canonical text of rows into a room, and answers how many bytes it has. The rows are the used ones only.
 /// What lies after the text is zero, and after a refusal, 22 or 23, all of the room.
-pub fn write_rows(text: &[u8], nodes: &[u32], numbers: &[u32], out: &mut [u8]) -> Result<usize, Refusal> {
+pub fn write_rows(
+    text: &[u8],
+    nodes: &[u32],
+    numbers: &[u32],
+    out: &mut [u8],
+) -> Result<usize, Refusal> {
     let mut answer = [0; ANSWER_PLACES];
     // SAFETY: as in `read`.
     unsafe {
@@ -113,8 +125,14 @@ pub fn strict_rows(text: &[u8], nodes: &[u32], numbers: &[u32]) -> Result<Option
     let [number, letter, row, _] = answer;
     match (number, letter) {
         (0, 0) => Ok(None),
-        (0, letter) => Ok(Some(Fault { rule: letter as u8 as char, row: row as usize })),
-        (number, _) => Err(Refusal { number: number as u32, place: 0 }),
+        (0, letter) => Ok(Some(Fault {
+            rule: letter as u8 as char,
+            row: row as usize,
+        })),
+        (number, _) => Err(Refusal {
+            number: number as u32,
+            place: 0,
+        }),
     }
 }
 
@@ -124,7 +142,8 @@ pub(crate) fn infer_type(text: &[u8]) -> Result<(Kind, Dimension), Refusal> {
     unsafe { doorhollow_infer_type(text.as_ptr(), text.len(), &mut answer) }
     accepted(answer).map(|answer| {
         let kind = Kind::from_number(answer[2]).expect("an accepted answer has a kind");
-        let dimension = Dimension::from_number(answer[3]).expect("an accepted answer has a dimension");
+        let dimension =
+            Dimension::from_number(answer[3]).expect("an accepted answer has a dimension");
         (kind, dimension)
     })
 }

@@ -14,7 +14,9 @@ fn is_break(b: &u8) -> bool {
 
 /// The place of the first byte from `from` on that a character begins with, or the end.
 fn next_begin(bytes: &[u8], from: usize) -> usize {
-    (from..bytes.len()).find(|&i| !(0x80..0xC0).contains(&bytes[i])).unwrap_or(bytes.len())
+    (from..bytes.len())
+        .find(|&i| !(0x80..0xC0).contains(&bytes[i]))
+        .unwrap_or(bytes.len())
 }
 
 /// The place that is shown: that of the text's end is behind its last line.
@@ -22,7 +24,9 @@ fn shown_place(text: &[u8], place: usize) -> usize {
     if place < text.len() {
         return place;
     }
-    text.iter().rposition(|b| !is_break(b)).map_or(0, |last| last + 1)
+    text.iter()
+        .rposition(|b| !is_break(b))
+        .map_or(0, |last| last + 1)
 }
 
 /// Whether a terminal shows the character over two columns: East Asian text and pictures.
@@ -52,7 +56,9 @@ fn put_part(out: &mut String, part: &[u8], under: bool) {
     while i < part.len() {
         let next = next_begin(part, i + 1);
         let bytes = &part[i..next];
-        let c = std::str::from_utf8(bytes).ok().and_then(|shown| shown.chars().next());
+        let c = std::str::from_utf8(bytes)
+            .ok()
+            .and_then(|shown| shown.chars().next());
         out.push(match c {
             Some(c) if under => blank_under(c),
             None if under => ' ',
@@ -72,11 +78,22 @@ fn put_before(out: &mut String, before: &[u8], under: bool, mark: &str) {
 
 pub(crate) fn explain(refusal: &Refusal, text: &[u8]) -> String {
     let shown = shown_place(text, refusal.place);
-    let start = text[..shown].iter().rposition(is_break).map_or(0, |last| last + 1);
-    let end = text[shown..].iter().position(is_break).map_or(text.len(), |first| shown + first);
+    let start = text[..shown]
+        .iter()
+        .rposition(is_break)
+        .map_or(0, |last| last + 1);
+    let end = text[shown..]
+        .iter()
+        .position(is_break)
+        .map_or(text.len(), |first| shown + first);
     let (before, behind) = (&text[start..shown], &text[shown..end]);
     let to = next_begin(behind, SHOWN_BYTES.min(behind.len()));
-    let mut out = format!("refused {} {}: {}\n", refusal.number, refusal.place, refusal.message_in(text));
+    let mut out = format!(
+        "refused {} {}: {}\n",
+        refusal.number,
+        refusal.place,
+        refusal.message_in(text)
+    );
     put_before(&mut out, before, false, DOTS);
     put_part(&mut out, &behind[..to], false);
     out.push_str(&DOTS[..(behind.len() - to).min(DOTS.len())]);

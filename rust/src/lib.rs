@@ -88,10 +88,17 @@ pub enum Dimension {
 }
 
 impl Dimension {
-    const ALL: [Dimension; 4] = [Dimension::XY, Dimension::XYZ, Dimension::XYM, Dimension::XYZM];
+    const ALL: [Dimension; 4] = [
+        Dimension::XY,
+        Dimension::XYZ,
+        Dimension::XYM,
+        Dimension::XYZM,
+    ];
 
     fn from_number(number: u64) -> Option<Dimension> {
-        Dimension::ALL.into_iter().find(|dimension| *dimension as u64 == number)
+        Dimension::ALL
+            .into_iter()
+            .find(|dimension| *dimension as u64 == number)
     }
 
     /// How many numbers a coordinate has.
@@ -131,7 +138,11 @@ impl std::error::Error for Fault {}
 pub fn read<T: AsRef<[u8]> + ?Sized>(text: &T) -> Result<Tree<'_>, Refusal> {
     let text = text.as_ref();
     // Half as many rows as a text has bytes are enough, and a text over the limit is refused without any.
-    let rows = if text.len() <= TEXT_LIMIT { text.len() / 2 } else { 0 };
+    let rows = if text.len() <= TEXT_LIMIT {
+        text.len() / 2
+    } else {
+        0
+    };
     let mut nodes = vec![0; rows * NODE_WIDTH];
     let mut numbers = vec![0; rows * NUMBER_WIDTH];
     let (node_count, number_count) = calls::read(text, &mut nodes, &mut numbers)?;
@@ -151,7 +162,11 @@ pub fn read_into<'a, T: AsRef<[u8]> + ?Sized>(
     let (node_count, number_count) = calls::read(text, nodes, numbers)?;
     let nodes = &nodes[..node_count * NODE_WIDTH];
     let numbers = &numbers[..number_count * NUMBER_WIDTH];
-    Ok(Tree::new(text, Cow::Borrowed(nodes), Cow::Borrowed(numbers)))
+    Ok(Tree::new(
+        text,
+        Cow::Borrowed(nodes),
+        Cow::Borrowed(numbers),
+    ))
 }
 
 /// The kind and the dimension that the front of a text names. It looks no further than the first `(`.

@@ -51,7 +51,11 @@ impl Refusal {
         let text = text.as_ref();
         let front = &text[self.place.min(text.len())..];
         let prefix = front.split(|b| *b == b'(').next().unwrap_or(front);
-        format!("{} {}", self.message(), String::from_utf8_lossy(prefix).to_uppercase())
+        format!(
+            "{} {}",
+            self.message(),
+            String::from_utf8_lossy(prefix).to_uppercase()
+        )
     }
 
     /// The refusal as an editor shows it, three lines: number, place and message; the line of the text around the
@@ -67,7 +71,13 @@ impl Refusal {
 
 impl fmt::Display for Refusal {
     fn fmt(&self, f: &mut fmt::Formatter<'_>) -> fmt::Result {
-        write!(f, "{} (refused {} at byte {})", self.message(), self.number, self.place)
+        write!(
+            f,
+            "{} (refused {} at byte {})",
+            self.message(),
+            self.number,
+            self.place
+        )
     }
 }
 

@@ -15,11 +15,19 @@ pub struct Node {
 
 impl Node {
     fn children(&self) -> usize {
-        if self.kind.has_coordinates() { 0 } else { self.parts }
+        if self.kind.has_coordinates() {
+            0
+        } else {
+            self.parts
+        }
     }
 
     fn numbers(&self) -> usize {
-        if self.kind.has_coordinates() { self.parts * self.dimension.width() } else { 0 }
+        if self.kind.has_coordinates() {
+            self.parts * self.dimension.width()
+        } else {
+            0
+        }
     }
 }
 
@@ -34,7 +42,11 @@ pub struct Tree<'a> {
 
 impl<'a> Tree<'a> {
     pub(crate) fn new(text: &'a [u8], nodes: Cow<'a, [u32]>, numbers: Cow<'a, [u32]>) -> Tree<'a> {
-        Tree { text, nodes, numbers }
+        Tree {
+            text,
+            nodes,
+            numbers,
+        }
     }
 
     /// The text that was read, with what follows the geometry.
@@ -79,7 +91,11 @@ impl<'a> Tree<'a> {
 
     /// All nodes in the order of their indexes, each with its index and that of its first number.
     pub fn walk(&self) -> Walk<'_> {
-        Walk { tree: self, index: 0, number: 0 }
+        Walk {
+            tree: self,
+            index: 0,
+            number: 0,
+        }
     }
 
     /// All nodes in the order of their indexes: each before its children.
@@ -104,7 +120,11 @@ impl<'a> Tree<'a> {
     /// that stand below it.
     pub fn children(&self, index: usize) -> Children<'_> {
         let left = self.node(index).map_or(0, |node| node.children());
-        Children { tree: self, next: index.saturating_add(1), left }
+        Children {
+            tree: self,
+            next: index.saturating_add(1),
+            left,
+        }
     }
 
     /// The index of a node's child, by its place among the children.
@@ -114,12 +134,23 @@ impl<'a> Tree<'a> {
 
     /// A node's coordinates; none of one that has children. To find the first is to pass over the nodes before it.
     pub fn coordinates(&self, index: usize) -> Coordinates<'_> {
-        let found = self.walk().nth(index).filter(|(_, node, _)| node.kind.has_coordinates());
+        let found = self
+            .walk()
+            .nth(index)
+            .filter(|(_, node, _)| node.kind.has_coordinates());
         match found {
-            Some((_, node, number)) => {
-                Coordinates { tree: self, dimension: node.dimension, next: number, left: node.parts }
-            }
-            None => Coordinates { tree: self, dimension: Dimension::XY, next: 0, left: 0 },
+            Some((_, node, number)) => Coordinates {
+                tree: self,
+                dimension: node.dimension,
+                next: number,
+                left: node.parts,
+            },
+            None => Coordinates {
+                tree: self,
+                dimension: Dimension::XY,
+                next: 0,
+                left: 0,
+            },
         }
     }
 
@@ -239,7 +270,11 @@ impl<'t> Iterator for Coordinates<'t> {
 
     fn next(&mut self) -> Option<Coordinate<'t>> {
         self.left = self.left.checked_sub(1)?;
-        let found = Coordinate { tree: self.tree, dimension: self.dimension, number: self.next };
+        let found = Coordinate {
+            tree: self.tree,
+            dimension: self.dimension,
+            number: self.next,
+        };
         self.next += self.dimension.width();
         Some(found)
     }
@@ -261,7 +296,9 @@ pub struct Coordinate<'t> {
 
 impl<'t> Coordinate<'t> {
     fn text(&self, part: usize) -> &'t str {
-        self.tree.number(self.number + part).expect("a coordinate has its numbers")
+        self.tree
+            .number(self.number + part)
+            .expect("a coordinate has its numbers")
     }
 
     /// Which numbers it has.

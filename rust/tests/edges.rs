@@ -64,30 +64,54 @@ fn collections_and_limits() {
 #[test]
 fn rooms() {
     let (mut nodes, mut numbers) = ([7; 3], [7; 4]);
-    assert_eq!(refused(read_into("POINT(1 2)", &mut nodes[..2], &mut numbers)), (3, 5));
+    assert_eq!(
+        refused(read_into("POINT(1 2)", &mut nodes[..2], &mut numbers)),
+        (3, 5)
+    );
     assert_eq!(nodes, [0, 0, 7], "only what was lent is zeroed");
     assert_eq!(numbers, [0; 4]);
-    assert_eq!(refused(read_into("POINT(1 2)", &mut nodes, &mut numbers[..3])), (4, 8));
+    assert_eq!(
+        refused(read_into("POINT(1 2)", &mut nodes, &mut numbers[..3])),
+        (4, 8)
+    );
     let tree = read_into("POINT(1 2)", &mut nodes, &mut numbers).unwrap();
-    assert_eq!((tree.node_rows(), tree.number_rows()), (&[1, 0, 1][..], &[6, 1, 8, 1][..]));
+    assert_eq!(
+        (tree.node_rows(), tree.number_rows()),
+        (&[1, 0, 1][..], &[6, 1, 8, 1][..])
+    );
 }
 
 #[test]
 fn slices_are_zero_after_a_refusal_and_behind_the_used_rows() {
     let (mut nodes, mut numbers) = ([1; 30], [1; 31]);
-    assert_eq!(refused(read_into("LINESTRING(1 2,3 x)", &mut nodes, &mut numbers)), (15, 17));
+    assert_eq!(
+        refused(read_into("LINESTRING(1 2,3 x)", &mut nodes, &mut numbers)),
+        (15, 17)
+    );
     assert_eq!((nodes, numbers), ([0; 30], [0; 31]));
     (nodes, numbers) = ([1; 30], [1; 31]);
     assert!(read_into("POINT(1 2)", &mut nodes, &mut numbers).is_ok());
-    assert_eq!((&nodes[..4], &nodes[3..]), (&[1, 0, 1, 0][..], &[0; 27][..]));
-    assert_eq!((&numbers[..5], &numbers[4..]), (&[6, 1, 8, 1, 0][..], &[0; 27][..]));
+    assert_eq!(
+        (&nodes[..4], &nodes[3..]),
+        (&[1, 0, 1, 0][..], &[0; 27][..])
+    );
+    assert_eq!(
+        (&numbers[..5], &numbers[4..]),
+        (&[6, 1, 8, 1, 0][..], &[0; 27][..])
+    );
 }
 
 #[test]
 fn inferred_types() {
     assert_eq!(infer_type("POINTZ EMPTY"), Ok((Kind::Point, Dimension::XY)));
-    assert_eq!(infer_type("multipoint zm ("), Ok((Kind::MultiPoint, Dimension::XYZM)));
-    assert_eq!(infer_type("POLYGON M Z("), Ok((Kind::Polygon, Dimension::XYZ)));
+    assert_eq!(
+        infer_type("multipoint zm ("),
+        Ok((Kind::MultiPoint, Dimension::XYZM))
+    );
+    assert_eq!(
+        infer_type("POLYGON M Z("),
+        Ok((Kind::Polygon, Dimension::XYZ))
+    );
     assert_eq!(refused(infer_type("POINTEMPTY")), (20, 0));
     assert_eq!(refused(infer_type("X")), (21, 0));
     assert_eq!(refused(infer_type(" LINEARRING(1 2)")), (19, 1));

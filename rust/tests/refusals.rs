@@ -22,20 +22,31 @@ fn messages_are_those_of_the_crate_wkt() {
         (16, "Expected a number for the Z coordinate"),
         (17, "Expected a number for the M coordinate"),
         (18, "Expected a word in GEOMETRYCOLLECTION"),
-        (20, "Invalid WKT; no whitespace between geometry type and EMPTY."),
+        (
+            20,
+            "Invalid WKT; no whitespace between geometry type and EMPTY.",
+        ),
         (21, "Invalid WKT; no '(' character and not EMPTY"),
     ];
     for (number, message) in messages {
         assert_eq!(Refusal { number, place: 0 }.message(), message);
     }
     let refusal = infer_type("\tLinearring(1 2)").unwrap_err();
-    assert_eq!(refusal.message_in("\tLinearring(1 2)"), "Unsupported WKT prefix LINEARRING");
-    assert_eq!(refusal.to_string(), "Unsupported WKT prefix (refused 19 at byte 1)");
+    assert_eq!(
+        refusal.message_in("\tLinearring(1 2)"),
+        "Unsupported WKT prefix LINEARRING"
+    );
+    assert_eq!(
+        refusal.to_string(),
+        "Unsupported WKT prefix (refused 19 at byte 1)"
+    );
 }
 
 #[test]
 fn every_refusal_has_a_message() {
-    let messages: Vec<&str> = (1..=24).map(|number| Refusal { number, place: 0 }.message()).collect();
+    let messages: Vec<&str> = (1..=24)
+        .map(|number| Refusal { number, place: 0 }.message())
+        .collect();
     assert!(!messages.contains(&"Unknown refusal"));
 }
 
@@ -54,13 +65,19 @@ fn wide_text_is_counted_by_characters() {
                     \x20                  \u{3000}^\n";
     assert_eq!(explained("GEOMETRYCOLLECTION(京(1 2))"), expected);
     let caret = expected.lines().last().unwrap();
-    assert_eq!(caret.chars().count(), "GEOMETRYCOLLECTION(京(".chars().count());
+    assert_eq!(
+        caret.chars().count(),
+        "GEOMETRYCOLLECTION(京(".chars().count()
+    );
 }
 
 #[test]
 fn tabs_lines_and_the_end() {
     assert!(explained("LINESTRING(1 2,\r\n\té 3)\r\n").ends_with("\n\té 3)\n\t  ^\n"));
-    assert_eq!(explained("POINT\n"), "refused 10 6: End of stream\nPOINT\n     ^\n");
+    assert_eq!(
+        explained("POINT\n"),
+        "refused 10 6: End of stream\nPOINT\n     ^\n"
+    );
     assert_eq!(explained(""), "refused 8 0: Invalid WKT format\n\n^\n");
 }
 
@@ -73,11 +90,18 @@ fn what_a_terminal_acts_on_is_not_shown() {
 
 #[test]
 fn long_lines_are_cut() {
-    let text = format!("LINESTRING({}1 x,{}1 2)", "1 2,".repeat(40), "3 4,".repeat(40));
+    let text = format!(
+        "LINESTRING({}1 x,{}1 2)",
+        "1 2,".repeat(40),
+        "3 4,".repeat(40)
+    );
     let told = explained(&text);
     let lines: Vec<&str> = told.lines().collect();
     assert_eq!(lines[1].len(), 3 + 32 + 32 + 3);
-    assert_eq!(lines[1].as_bytes()[lines[2].len() - 1], text.as_bytes()[read(&text).unwrap_err().place]);
+    assert_eq!(
+        lines[1].as_bytes()[lines[2].len() - 1],
+        text.as_bytes()[read(&text).unwrap_err().place]
+    );
     let over = "京".repeat(30_000);
     assert!(explained(&over).starts_with("refused 1 65535: "));
 }
@@ -92,11 +116,24 @@ fn the_program_explain_says_the_same() {
 
 #[test]
 fn the_program_has_the_same_messages() {
-    let source = concat!(env!("CARGO_MANIFEST_DIR"), "/../crates/explain/src/messages.rt");
+    let source = concat!(
+        env!("CARGO_MANIFEST_DIR"),
+        "/../crates/explain/src/messages.rt"
+    );
     let source = std::fs::read_to_string(source).unwrap();
-    let table: Vec<&str> = source.lines().filter_map(|line| line.split_once("\\n").map(|(text, _)| text.trim())).collect();
+    let table: Vec<&str> = source
+        .lines()
+        .filter_map(|line| line.split_once("\\n").map(|(text, _)| text.trim()))
+        .collect();
     assert_eq!(table.len(), 19);
     for number in 1..=18 {
-        assert_eq!(table[number], Refusal { number: number as u32, place: 0 }.message());
+        assert_eq!(
+            table[number],
+            Refusal {
+                number: number as u32,
+                place: 0
+            }
+            .message()
+        );
     }
 }

@@ -11,7 +11,7 @@ use native.Mathlib.Decide.{decLt}
 use lib.Dec.{eqb, leb}
 use borrow.Author.Tests.{eq-eqb, ne-eqb, eqb-true, le-leb, lt-leb, leb-true}
 use Rattle.scan.specs.Bytes.{space, parenOpen, parenClose, comma}
-use Rattle.names.specs.Kinds.{kindPoint, kindLineString, kindGeometryCollection, dimXY, dimXYZM}
+use Rattle.names.specs.Kinds.{kindPoint, kindLineString, kindGeometryCollection, dimXY, dimXYZM, width}
 use Rattle.names.specs.Strings.{empty}
 use Rattle.store.specs.Rows.{Row, row}
 use Rattle.grammar.specs.Tree.{Coord, each, separated, putCoord, putParts}
@@ -19,7 +19,8 @@ use Rattle.grammar.specs.Tree as tree
 use Rattle.grammar.specs.Store.{ill, front, onFront, asA, times, findText, findCoord}
 use Rattle.shape.specs.declared.Frame.{Frame}
 use Rattle.shape.specs.declared.Visit.{Visit}
-use Rattle.shape.specs.Nodes.{frame, visitOf, width, numbersOf, isLeaf, isFree, childKind, isGeometry, isChild, isAllowed, mayOpen, opened, fewer, after, ends, isOpen, follow, atLast, visitsBy, visits}
+use Rattle.names.proofs.Widths.{width-some}
+use Rattle.shape.specs.Nodes.{frame, visitOf, numbersOf, isLeaf, isFree, childKind, isGeometry, isChild, isAllowed, mayOpen, opened, fewer, after, ends, isOpen, follow, atLast, visitsBy, visits}
 use Rattle.shape.specs.Nodes as nodes
 use Rattle.shape.specs.Numbers.{textAt}
 use Rattle.to_wkt.specs.Canonical.{needsPlus, spell, putNumber, putSpaced, putCoordinate, putListed, putCoordinates, putHead, putBody, putClosings, putTail, putNode, nodesText}
@@ -30,23 +31,6 @@ use Rattle.bridge.proofs.Sim.{map-ext}
 pub spell-is : (x : List ℕ) → tree.spell x ≡ spell x
 unfolding tree.spell spell needsPlus
 spell-is x = refl
-
-pub width-is : (d : ℕ) → d ≤ dimXYZM → tree.numbersOf d ≡ width d
-unfolding tree.numbersOf width
-width-is zero h = refl
-width-is (suc zero) h = refl
-width-is (suc (suc zero)) h = refl
-width-is (suc (suc (suc zero))) h = refl
-width-is (suc (suc (suc (suc d)))) h = absurd (omega arith)
-
-width-some : (d : ℕ) → 1 ≤ width d
-unfolding width
-width-some d = go (eqb d dimXY) (eqb d dimXYZM)
-  where
-    go : (a b : Bool) → 1 ≤ cond a 2 (cond b 4 3)
-    go true b = omega arith
-    go false true = omega arith
-    go false false = omega arith
 
 -- ---- frames without their rows
 abbrev pub bare : Frame → Frame
@@ -172,7 +156,7 @@ module _ (text numbers : List ℕ) where
   leaf-row : (i j : ℕ) (f : Frame) (k d n c : ℕ) (m : Bool) (r : List ℕ) → leb k kindLineString ≡ true →
       putNode text numbers (nodes.ending (visitOf i j f (row k d n)) c m) r ≡ putHead (below (bare f) (row k d n)) (putParts putCoord (coordsFrom j (width d) n) (endingWith c m r))
   unfolding putNode putHead putBody putTail endingWith
-  leaf-row i j f k d n c m r e = rw (e, parts-is (width d) n j (endingWith c m r) (width-some d))
+  leaf-row i j f k d n c m r e = rw (e, parts-is (width d) n j (endingWith c m r) (omega (arith, width-some d)))
 
   empty-row : (i j : ℕ) (f : Frame) (k d c : ℕ) (m : Bool) (r : List ℕ) → putNode text numbers (nodes.ending (visitOf i j f (row k d 0)) c m) r ≡ putHead (below (bare f) (row k d 0)) (empty ++ endingWith c m r)
   unfolding putNode putHead putBody putTail endingWith
@@ -216,11 +200,11 @@ module _ (text numbers : List ℕ) where
     put-walk v gs i j rs w ih kn h e =
         follow-text v (visits count gs i j rs) ∙ ap (mapO (putNode text numbers v)) (ih gs i j kn h) ∙ map-ext (putNode text numbers v) w (run (map bare gs) rs (later j)) e
 
-    leaf-walk : (i j : ℕ) (f : Frame) (k d n : ℕ) (gs : List Frame) (rs : List Row) → Walks rs → Known gs → d ≤ dimXYZM → leb k kindLineString ≡ true → j ≤ count →
+    leaf-walk : (i j : ℕ) (f : Frame) (k d n : ℕ) (gs : List Frame) (rs : List Row) → Walks rs → Known gs → leb k kindLineString ≡ true → j ≤ count →
         mapO (nodesText text numbers) (cond (leb (j + n * width d) count) (follow (nodes.ending (visitOf i j f (row k d n)) (ends gs) (isOpen (after gs))) (visits count (after gs) (i + 1) (j + n * width d) rs)) none)
         ≡ (onCoords (times (findCoord d) n [] (later j)) λ cs ns1. mapO (λ r. putHead (below (bare f) (row k d n)) (putParts putCoord cs (endingWith (ends gs) (isOpen (after gs)) r))) (run (map bare (after gs)) rs ns1))
     unfolding onCoords
-    leaf-walk i j f k d n gs rs ih kn dm e h = map-cond (leb (j + n * width d) count) _ ∙ rw (width-is d dm) (go (decLt count (j + n * width d)))
+    leaf-walk i j f k d n gs rs ih kn e h = map-cond (leb (j + n * width d) count) _ ∙ go (decLt count (j + n * width d))
       where
         go : Dec (count < j + n * width d) →
             cond (leb (j + n * width d) count) (mapO (nodesText text numbers) (follow (nodes.ending (visitOf i j f (row k d n)) (ends gs) (isOpen (after gs))) (visits count (after gs) (i + 1) (j + n * width d) rs))) none
@@ -255,7 +239,7 @@ module _ (text numbers : List ℕ) where
         (cond (eqb n 0)
         (mapO (λ r. putHead (below (bare f) (row k d n)) (empty ++ endingWith (ends gs) (isOpen (after gs)) r)) (run (map bare (after gs)) rs (later j)))
         (cond (mayOpen (visitOf i j f (row k d n))) (mapO (λ r. putHead (below (bare f) (row k d n)) (parenOpen ∷ r)) (run (opened (below (bare f) (row k d n)) ∷ map bare gs) rs (later j))) none))
-    row-walk i j f k d n gs rs ih kn dm h true e = leaf-walk i j f k d n gs rs ih kn dm e h
+    row-walk i j f k d n gs rs ih kn dm h true e = leaf-walk i j f k d n gs rs ih kn e h
     row-walk i j f k d n gs rs ih kn dm h false e = nest-walk (mayOpen (visitOf i j f (row k d n))) i j f k d n gs rs ih kn dm e h
 
     -- the walk over slices comes to what the walk over lists comes to

@@ -9,8 +9,9 @@ use native.Mathlib.Omega.{arith}
 use lib.Dec.{eqb, leb}
 use lib.ListN.{length}
 use borrow.Author.Tests.{ne-eqb, eqb-true, le-leb, lt-leb, lt-ltb}
+use Rattle.limits.specs.Limits.{depthLimit}
 use Rattle.scan.specs.Bytes.{space, parenOpen, parenClose, comma}
-use Rattle.names.specs.Kinds.{kindPoint, kindLineString, kindPolygon, kindMultiPoint, kindMultiLineString, kindMultiPolygon, kindGeometryCollection, dimXYZM}
+use Rattle.names.specs.Kinds.{kindPoint, kindLineString, kindPolygon, kindMultiPoint, kindMultiLineString, kindMultiPolygon, kindGeometryCollection, dimXYZM, width}
 use Rattle.names.specs.Names.{names, endings}
 use Rattle.names.specs.Strings.{empty}
 use Rattle.store.specs.Rows.{Row, row}
@@ -18,7 +19,7 @@ use Rattle.grammar.specs.Tree.{Coord, Node, pointN, lineN, polygonN, multipoint
 use Rattle.grammar.specs.Tree as tree
 use Rattle.grammar.specs.Store.{Front, ill, front, Finder, onFront, asA, findNone, times, findText, findCoord, findRow, findLine, findPolygon, exactlyOne, findPoint, atMostOne, findParts, findNode, findTree, whole, textOfTree, canonical}
 use Rattle.shape.specs.declared.Frame.{Frame}
-use Rattle.shape.specs.Nodes.{noKind, depthLimit, frame, above, isFree, childKind, isAllowed, mayOpen, opened, after, ends, isOpen}
+use Rattle.shape.specs.Nodes.{noKind, frame, above, isFree, childKind, isAllowed, mayOpen, opened, after, ends, isOpen}
 use Rattle.to_wkt.specs.Canonical.{stringOf, putName, putDimension, putHead, putClosings}
 use Rattle.bridge.specs.Run.{mapO, below, endingWith, ending, onCoords, run, next, thenPut}
 
@@ -140,7 +141,7 @@ times-by {X} f h (suc n) rs ns = rw (h rs ns) (go (f [] ns) (λ rs1 ns1. times-b
     go (front x rs′ ns′) i = rw (i rs ns′, i rs′ ns′) (more x rs′ (times f n [] ns′))
 
 coords-by : (d n : ℕ) → PassesBy (times (findCoord d) n)
-coords-by d n = times-by (findCoord d) (times-by findText text-by (tree.numbersOf d)) n
+coords-by d n = times-by (findCoord d) (times-by findText text-by (width d)) n
 
 -- ---- rows
 leaf-sim : (w : List Coord → List ℕ → List ℕ) (q : Front (List Coord)) (gs : List Frame) (rs : List Row) → (onCoords q λ cs ns1. mapO (λ r. w cs (ending gs r)) (run (after gs) rs ns1)) ≡ thenPut (atRows rs q) w (next gs)

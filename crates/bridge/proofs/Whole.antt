@@ -10,13 +10,13 @@ use native.Mathlib.Omega.{arith}
 use lib.Dec.{leb}
 use lib.ListN.{length, take, drop}
 use borrow.Author.Tests.{le-leb, leb-true}
+use Rattle.limits.specs.Limits.{depthLimit}
 use Rattle.names.specs.Lists.{every}
 use Rattle.number.specs.Lexeme.{isLexeme}
 use Rattle.store.specs.Rows.{Span, span, startAt, lengthAt, spanAt, numberRoom, firsts, spansIn}
 use Rattle.grammar.specs.Lists.{All}
 use Rattle.grammar.specs.Answers.{SpanIn}
 use Rattle.grammar.specs.Tree.{Tree}
-use Rattle.grammar.specs.Whole.{depthLimit}
 use Rattle.grammar.specs.Store.{spanText, spanTexts, treeIn, textOfTree}
 use Rattle.grammar.specs.Store as tree
 use Rattle.shape.specs.declared.Visit.{Visit}

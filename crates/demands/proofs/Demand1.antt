@@ -10,7 +10,7 @@ use native.Mathlib.Omega.{arith}
 use lib.Dec.{eqb, leb}
 use lib.ListN.{length}
 use borrow.Author.Tests.{eqb-false, leb-true, leb-false}
-use Rattle.limits.specs.Limits.{textLimit, overLimit}
+use Rattle.limits.specs.Limits.{textLimit, overLimit, depthLimit}
 use Rattle.utf8.specs.Utf8.{isUtf8, firstIll}
 use Rattle.tokenizer.specs.Lex.{lex}
 use Rattle.tokenizer.specs.declared.Found.{Found}
@@ -28,7 +28,7 @@ use Rattle.grammar.specs.Lists.{All}
 use Rattle.grammar.specs.Answers.{Passes, isRefusal, isHalt, Refused, Halted}
 use Rattle.grammar.specs.Demand.{run, answerIn}
 use Rattle.grammar.specs.Grammar.{out, Got, ok, refused, halt, refusal, root}
-use Rattle.grammar.specs.Whole.{depthLimit, enough, reading}
+use Rattle.grammar.specs.Whole.{enough, reading}
 use Rattle.grammar.proofs.Fuel.{reading-refusals, reading-halts, reading-kept}
 use Rattle.wkt.specs.declared.ReadAnswer.{ReadAnswer}
 use Rattle.wkt.specs.Whole as read

@@ -8,12 +8,13 @@ use Prim.Native.Nat.{ℕ}
 use native.Mathlib.Omega.{arith}
 use lib.ListN.{length, getD, length-map}
 use borrow.Author.Tests.{le-leb}
+use Rattle.limits.specs.Limits.{depthLimit}
 use Rattle.scan.specs.Text.{bytes}
 use Rattle.scan.specs.Front.{begins, afterOne, afterAll, isNil}
 use Rattle.words.specs.Words.{sameWord}
 use Rattle.number.specs.Lexeme.{isNamed, isDigits, isExponent, isDecimal, isUnsigned, isLexeme}
 use Rattle.names.specs.Lists.{every}
-use Rattle.names.specs.Kinds.{kindPoint, kindMultiPoint, dimXY}
+use Rattle.names.specs.Kinds.{kindPoint, kindMultiPoint, dimXY, width}
 use Rattle.tokenizer.proofs.Bridge.{toks-lex}
 use Rattle.store.specs.Rows.{row, span, nodeRoom, numberRoom, cell, partsAt, startAt, firsts, rowsIn, spansIn, flatRows, flatSpans, zeros, padded}
 use Rattle.grammar.specs.Lists.{All}
@@ -21,12 +22,12 @@ use Rattle.grammar.specs.Answers.{Passes}
 use Rattle.grammar.specs.Edges.{Edge, reads, Holds, edges, every-edge}
 use Rattle.grammar.specs.Grammar.{Got, ok, out}
 use Rattle.grammar.specs.Store.{spanText, spanTexts}
-use Rattle.grammar.specs.Whole.{depthLimit, reading}
+use Rattle.grammar.specs.Whole.{reading}
 use Rattle.grammar.proofs.Found.{trees-own}
 use Rattle.grammar.proofs.WellRead.{reading-well-formed}
 use Rattle.wkt.specs.declared.ReadAnswer.{ReadAnswer}
 use Rattle.wkt.specs.Whole.{Leaves, leaves-one, answerOf, rowsOf, spansOf, rootIn}
-use Rattle.shape.specs.Nodes.{width, numbersOf, childKind, isAllowed, after, ends, isOpen, atLast, visitsBy, visits, treeOf}
+use Rattle.shape.specs.Nodes.{numbersOf, childKind, isAllowed, after, ends, isOpen, atLast, visitsBy, visits, treeOf}
 use Rattle.shape.specs.Numbers.{textAt, areNumbers}
 use Rattle.shape.specs.Store.{areWhole, visitsOf}
 use Rattle.to_wkt.specs.Canonical.{needsPlus, spell, putNumber, putSpaced, putCoordinate, putListed, putCoordinates, stringOf, putName, putDimension, putHead, putBody, putClosings, putTail, putNode, nodesText, canonical}

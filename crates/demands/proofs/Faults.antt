@@ -9,6 +9,7 @@ use native.Mathlib.Omega.{arith}
 use lib.Dec.{eqb, leb, ltb}
 use lib.ListN.{length, getD}
 use borrow.Author.Tests.{eqb-true, eqb-false, leb-false, ltb-true}
+use Rattle.limits.specs.Limits.{depthLimit}
 use Rattle.scan.specs.Bytes.{nul, parenOpen, parenClose, comma, isBlank, isAscii, isInner, isNumberlike}
 use Rattle.scan.specs.Front.{part}
 use Rattle.scan.specs.Runs.{firstNot}
@@ -16,7 +17,7 @@ use Rattle.scan.proofs.Runs.{first-fails}
 use Rattle.number.specs.Lexeme.{isLexeme}
 use Rattle.names.specs.declared.Name.{Name}
 use Rattle.names.specs.declared.Ending.{Ending}
-use Rattle.names.specs.Kinds.{kindPoint, kindLineString, kindPolygon, kindMultiPoint, kindMultiLineString, kindMultiPolygon, kindGeometryCollection, dimXY}
+use Rattle.names.specs.Kinds.{kindPoint, kindLineString, kindPolygon, kindMultiPoint, kindMultiLineString, kindMultiPolygon, kindGeometryCollection, dimXY, hasZ, hasM}
 use Rattle.names.specs.Lists.{every}
 use Rattle.names.specs.Names.{meaning, ending, isEmptyWord}
 use Rattle.tokenizer.specs.declared.Found.{Found}
@@ -31,8 +32,8 @@ use Rattle.tokenizer.proofs.Stream.{either}
 use Rattle.tokenizer.proofs.Bridge.{toks-lex}
 use Rattle.grammar.specs.Demand.{P, ret, ask, look, bind, Ran, ran, run, answerIn, leftIn}
 use Rattle.grammar.specs.Tokens.{sortBad, sortOpen, sortClose, sortComma, sortNumber, sortWord, sortOf, placeOf, startOf, textOf, refusalAt}
-use Rattle.grammar.specs.Grammar.{Out, out, Got, ok, refused, halt, Head, opens, empty, wrong, refusal, andThen, rowsUsed, items, closing, addNode, addNumber, number, thenNumber, hasZ, hasM, ifAsked, coord, pointBody, opened, isEmptyTok, opening, opener, headerEnding, header, byName, childHead, rootHead, lineBody, parens, lineIn, lineOf, linesBody, polygonIn, polygonOf, polygonsBody, pointIn, barePoint, pointOf, pointsBody, multi, plain, geometryBy, childOf, collection, geometry, root}
-use Rattle.grammar.specs.Whole.{depthLimit, enough}
+use Rattle.grammar.specs.Grammar.{Out, out, Got, ok, refused, halt, Head, opens, empty, wrong, refusal, andThen, rowsUsed, items, closing, addNode, addNumber, number, thenNumber, ifAsked, coord, pointBody, opened, isEmptyTok, opening, opener, headerEnding, header, byName, childHead, rootHead, lineBody, parens, lineIn, lineOf, linesBody, polygonIn, polygonOf, polygonsBody, pointIn, barePoint, pointOf, pointsBody, multi, plain, geometryBy, childOf, collection, geometry, root}
+use Rattle.grammar.specs.Whole.{enough}
 use Rattle.grammar.proofs.Demand.{after, run-bind}
 use Rattle.demands.specs.Faults.{Other, AtFault, no-node, no-number, too-deep, bad-number, not-ascii, no-root, no-name, no-header, no-ending, not-opened, not-closed, no-x, no-y, no-z, no-m, no-child, later, Among, Starts, TokensStart}
 

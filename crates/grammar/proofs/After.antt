@@ -14,7 +14,7 @@ use Rattle.names.specs.declared.Ending.{Ending}
 use Rattle.names.specs.Kinds.{kindPoint, kindLineString, kindPolygon, kindMultiPoint, kindMultiLineString, kindMultiPolygon, kindGeometryCollection, dimXY}
 use Rattle.names.specs.Lists.{every}
 use Rattle.names.specs.Names.{meaning, ending, isEmptyWord}
-use Rattle.limits.specs.Limits.{textLimit, overLimit}
+use Rattle.limits.specs.Limits.{textLimit, overLimit, depthLimit}
 use Rattle.utf8.specs.Utf8.{isUtf8, firstIll}
 use Rattle.tokenizer.specs.Stream.{Tok, tok, none-tk, close-tk, Str, hd, tl}
 use Rattle.tokenizer.specs.Lex.{lex}
@@ -22,7 +22,7 @@ use Rattle.tokenizer.proofs.Stream.{either}
 use Rattle.grammar.specs.Demand.{P, ret, ask, look, bind, run, answerIn}
 use Rattle.grammar.specs.Tokens.{sortNone, sortOpen, sortClose, sortWord, sortOf, placeOf, textOf}
 use Rattle.grammar.specs.Grammar.{Out, out, Got, ok, refused, halt, Head, opens, empty, wrong, refusal, andThen, rowsUsed, closing, addNode, opened, isEmptyTok, opening, opener, headerEnding, header, byName, rootHead, lineIn, polygonIn, pointIn, multi, plain, geometryBy, collection, geometry, root}
-use Rattle.grammar.specs.Whole.{depthLimit, enough, reading}
+use Rattle.grammar.specs.Whole.{enough, reading}
 use Rattle.grammar.specs.Later.{lastOf, lastToken}
 use Rattle.grammar.specs.Answers.{Passes}
 use Rattle.grammar.proofs.Tokens.{TokIn, ToksIn, hd-in, tl-in, place-before, lex-in}

@@ -13,7 +13,7 @@ use Rattle.scan.specs.Bytes.{space, parenOpen, parenClose, comma, isAscii}
 use Rattle.words.specs.Words.{sameWord}
 use Rattle.names.specs.declared.Name.{Name}
 use Rattle.names.specs.declared.Ending.{Ending}
-use Rattle.names.specs.Kinds.{kindPoint, kindLineString, kindPolygon, kindMultiPoint, kindMultiLineString, kindMultiPolygon, kindGeometryCollection, dimXY, dimXYZ, dimXYM, dimXYZM}
+use Rattle.names.specs.Kinds.{kindPoint, kindLineString, kindPolygon, kindMultiPoint, kindMultiLineString, kindMultiPolygon, kindGeometryCollection, dimXY, dimXYZ, dimXYM, dimXYZM, hasZ, hasM, width}
 use Rattle.names.specs.Lists.{every}
 use Rattle.names.specs.Names.{names, endings, spellings, lookup, meaning, ending, isEmptyWord}
 use Rattle.names.specs.Strings.{empty as emptyWord}
@@ -25,9 +25,9 @@ use Rattle.tokenizer.specs.Stream.{word-tk, tok, Str, then, hd, tl, size}
 use Rattle.tokenizer.specs.Lex.{lex}
 use Rattle.grammar.specs.Demand.{P, ret, ask, look, bind, ran, run, answerIn}
 use Rattle.grammar.specs.Tokens.{sortClose, sortComma, sortOf}
-use Rattle.grammar.specs.Grammar.{Out, out, Got, ok, opens, empty, wrong, refusal, andThen, items, closing, addNode, number, thenNumber, hasZ, hasM, ifAsked, coord, pointBody, opened, opening, opener, headerEnding, header, byName, childHead, rootHead, lineBody, parens, lineIn, lineOf, linesBody, polygonIn, polygonOf, polygonsBody, pointIn, pointOf, pointsBody, multi, plain, geometryBy, childOf, collection, geometry, root}
+use Rattle.grammar.specs.Grammar.{Out, out, Got, ok, opens, empty, wrong, refusal, andThen, items, closing, addNode, number, thenNumber, ifAsked, coord, pointBody, opened, opening, opener, headerEnding, header, byName, childHead, rootHead, lineBody, parens, lineIn, lineOf, linesBody, polygonIn, polygonOf, polygonsBody, pointIn, pointOf, pointsBody, multi, plain, geometryBy, childOf, collection, geometry, root}
 use Rattle.grammar.specs.Lists.{All}
-use Rattle.grammar.specs.Tree.{Coord, Node, pointN, lineN, polygonN, multipointN, multilineN, multipolygonN, collectionN, Tree, rowsWith, noRows, pointRows, lineRows, polygonRows, nodeRows, rows, coordTexts, lineTexts, polygonTexts, nodeTexts, noTexts, texts, spell, putNumber, each, separated, putCoord, putParts, putNamed, stringOf, putDimension, putWith, putPoint, putLine, putPolygon, putNode, putNothing, put, IsDimension, numbersOf, CoordShape, LineShape, PolygonShape, NodeShape, NoShape, Shape, Lexeme, GoodTree}
+use Rattle.grammar.specs.Tree.{Coord, Node, pointN, lineN, polygonN, multipointN, multilineN, multipolygonN, collectionN, Tree, rowsWith, noRows, pointRows, lineRows, polygonRows, nodeRows, rows, coordTexts, lineTexts, polygonTexts, nodeTexts, noTexts, texts, spell, putNumber, each, separated, putCoord, putParts, putNamed, stringOf, putDimension, putWith, putPoint, putLine, putPolygon, putNode, putNothing, put, IsDimension, CoordShape, LineShape, PolygonShape, NodeShape, NoShape, Shape, Lexeme, GoodTree}
 use Rattle.grammar.specs.Store.{spanText, spanTexts}
 use Rattle.grammar.proofs.Demand.{after, run-bind, run-step, run-size}
 use Rattle.grammar.proofs.Loops.{Loop, first, more, last}
@@ -96,8 +96,8 @@ moreCodes d = 15 ∷ (cond (hasZ d) (16 ∷ []) [] ++ cond (hasM d) (17 ∷ []) 
 codes : ℕ → List ℕ
 codes d = 14 ∷ moreCodes d
 
-codes-count : (d : ℕ) → length (codes d) ≡ numbersOf d
-unfolding codes numbersOf
+codes-count : (d : ℕ) → length (codes d) ≡ width d
+unfolding codes width
 codes-count d = go (hasZ d) (hasM d)
   where
     go : (a b : Bool) → length {A = ℕ} (14 ∷ 15 ∷ (cond a (16 ∷ []) [] ++ cond b (17 ∷ []) [])) ≡ 2 + (cond a 1 0 + cond b 1 0)
@@ -301,7 +301,7 @@ module _ (N M F : ℕ) where
       → Reads (g (out rs ss)) (lex p (f x r)) (rs ++ ro x) ss (nu x) r
 
   coord-back : (d : ℕ) (c : Coord) → CoordShape d c → All Lexeme c → OneBack putCoord noRows coordTexts (coord M d) c
-  unfolding OneBack separated several codes All numbersOf
+  unfolding OneBack separated several codes All width
   coord-back d [] e g rs ss r p st hf hn hm = absurd (omega (arith, e))
   coord-back d (x ∷ c) e g rs ss r p st hf hn hm =
       let l : suc (length c) ≡ length (codes d) = e ∙ sym (codes-count d) in

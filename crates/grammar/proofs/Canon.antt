@@ -8,10 +8,10 @@ use Prim.Native.Nat.{ℕ, _+_, _≤_}
 use native.Mathlib.Omega.{arith}
 use lib.ListN.{length, length-map}
 use borrow.Author.Tests.{le-ltb}
-use Rattle.limits.specs.Limits.{textLimit}
+use Rattle.limits.specs.Limits.{textLimit, depthLimit}
 use Rattle.store.specs.Rows.{Row, Span, span}
 use Rattle.grammar.specs.Grammar.{out, ok}
-use Rattle.grammar.specs.Whole.{depthLimit, enough, reading}
+use Rattle.grammar.specs.Whole.{enough, reading}
 use Rattle.grammar.specs.Lists.{All}
 use Rattle.grammar.specs.Answers.{SpanIn, Kept}
 use Rattle.grammar.specs.Tree.{Tree, rows, texts, put, Lexeme, GoodTree}

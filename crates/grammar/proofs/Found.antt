@@ -8,11 +8,11 @@ use native.Mathlib.Omega.{arith}
 use lib.Dec.{eqb, leb}
 use lib.ListN.{length}
 use borrow.Author.Tests.{eq-eqb, le-leb, eqb-true, leb-true}
-use Rattle.names.specs.Kinds.{kindPoint, kindLineString, kindPolygon, kindMultiPoint, kindMultiLineString, kindMultiPolygon, kindGeometryCollection, dimXYZM}
+use Rattle.names.specs.Kinds.{kindPoint, kindLineString, kindPolygon, kindMultiPoint, kindMultiLineString, kindMultiPolygon, kindGeometryCollection, dimXYZM, width}
 use Rattle.store.specs.Rows.{Row, row}
 use Rattle.tokenizer.proofs.Stream.{either}
 use Rattle.grammar.specs.Lists.{All}
-use Rattle.grammar.specs.Tree.{Coord, Node, pointN, lineN, polygonN, multipointN, multilineN, multipolygonN, collectionN, Tree, rowsWith, noRows, pointRows, lineRows, polygonRows, nodeRows, rows, coordTexts, lineTexts, polygonTexts, nodeTexts, noTexts, texts, IsDimension, numbersOf, CoordShape, LineShape, PolygonShape, NodeShape, NoShape, Shape}
+use Rattle.grammar.specs.Tree.{Coord, Node, pointN, lineN, polygonN, multipointN, multilineN, multipolygonN, collectionN, Tree, rowsWith, noRows, pointRows, lineRows, polygonRows, nodeRows, rows, coordTexts, lineTexts, polygonTexts, nodeTexts, noTexts, texts, IsDimension, CoordShape, LineShape, PolygonShape, NodeShape, NoShape, Shape}
 use Rattle.grammar.specs.Store.{Front, ill, front, Finder, onFront, asA, findNone, times, findText, findCoord, findRow, findLine, findPolygon, exactlyOne, findPoint, atMostOne, findParts, findNode, findTree, whole, treeIn}
 
 abbrev Texts : Type 0
@@ -115,7 +115,7 @@ text-sound (suc n) rs (x ∷ ns) =
     λ c rs1 ns1 h. (h .0, ap (λ (l : Texts). x ∷ l) (h .1), ap suc (h .2))
 
 coord-sound : (d : ℕ) → Sound noRows coordTexts (CoordShape d) (findCoord d)
-coord-sound d = text-sound (numbersOf d)
+coord-sound d = text-sound (width d)
 
 module _ {X : Type 0} (ro : X → List Row) (nu : X → Texts) (Q : X → Type 0) (f : Finder X) (s : Sound ro nu Q f) where
   times-sound : (n : ℕ) → Sound (flatMap ro) (flatMap nu) (Counted Q n) (times f n)

@@ -11,24 +11,24 @@ use lib.ListN.{length, length-append, length-map}
 use borrow.Author.Tests.{leb-true}
 use Rattle.names.specs.declared.Name.{Name}
 use Rattle.names.specs.declared.Ending.{Ending}
-use Rattle.names.specs.Kinds.{kindPoint, kindLineString, kindPolygon, kindMultiPoint, kindMultiLineString, kindMultiPolygon, kindGeometryCollection, dimXY}
+use Rattle.names.specs.Kinds.{kindPoint, kindLineString, kindPolygon, kindMultiPoint, kindMultiLineString, kindMultiPolygon, kindGeometryCollection, dimXY, hasZ, hasM, width}
 use Rattle.names.specs.Lists.{every}
 use Rattle.names.specs.Names.{spellings, lookup, meaning, ending, isEmptyWord}
 use Rattle.scan.specs.Bytes.{isAscii}
 use Rattle.names.proofs.Lists.{every-head, every-tail}
 use Rattle.store.specs.Rows.{Row, row, Span, span, setParts}
 use Rattle.store.proofs.Rows.{setParts-seam}
-use Rattle.limits.specs.Limits.{overLimit}
+use Rattle.limits.specs.Limits.{overLimit, depthLimit}
 use Rattle.utf8.specs.Utf8.{isUtf8}
 use Rattle.tokenizer.specs.Stream.{Tok, Str, hd, tl}
 use Rattle.tokenizer.specs.Lex.{lex}
 use Rattle.tokenizer.proofs.Stream.{either}
 use Rattle.grammar.specs.Demand.{P, ret, ask, look, bind, run, answerIn}
 use Rattle.grammar.specs.Tokens.{sortOpen, sortClose, sortComma, sortNumber, sortWord, sortOf, placeOf, startOf, textOf}
-use Rattle.grammar.specs.Grammar.{Out, out, Got, ok, refused, halt, Head, opens, empty, wrong, andThen, fill, items, closing, addNode, takeNumber, number, thenNumber, hasZ, hasM, ifAsked, coord, pointBody, opened, isEmptyTok, opening, opener, headerEnding, header, byName, childHead, rootHead, lineBody, parens, lineIn, lineOf, linesBody, polygonIn, polygonOf, polygonsBody, pointIn, barePoint, pointOf, pointsBody, multi, plain, geometryBy, childOf, collection, geometry, root}
-use Rattle.grammar.specs.Whole.{depthLimit, enough, reading}
+use Rattle.grammar.specs.Grammar.{Out, out, Got, ok, refused, halt, Head, opens, empty, wrong, andThen, fill, items, closing, addNode, takeNumber, number, thenNumber, ifAsked, coord, pointBody, opened, isEmptyTok, opening, opener, headerEnding, header, byName, childHead, rootHead, lineBody, parens, lineIn, lineOf, linesBody, polygonIn, polygonOf, polygonsBody, pointIn, barePoint, pointOf, pointsBody, multi, plain, geometryBy, childOf, collection, geometry, root}
+use Rattle.grammar.specs.Whole.{enough, reading}
 use Rattle.grammar.specs.Lists.{All}
-use Rattle.grammar.specs.Tree.{Coord, Node, pointN, lineN, polygonN, multipointN, multilineN, multipolygonN, collectionN, rowsWith, noRows, pointRows, lineRows, polygonRows, nodeRows, rows, coordTexts, lineTexts, polygonTexts, nodeTexts, noTexts, texts, IsDimension, numbersOf, CoordShape, LineShape, PolygonShape, NodeShape, NoShape, Shape}
+use Rattle.grammar.specs.Tree.{Coord, Node, pointN, lineN, polygonN, multipointN, multilineN, multipolygonN, collectionN, rowsWith, noRows, pointRows, lineRows, polygonRows, nodeRows, rows, coordTexts, lineTexts, polygonTexts, nodeTexts, noTexts, texts, IsDimension, CoordShape, LineShape, PolygonShape, NodeShape, NoShape, Shape}
 use Rattle.grammar.specs.Store.{spanText, spanTexts, WellFormed}
 use Rattle.grammar.proofs.Found.{tree-in}
 use Rattle.grammar.proofs.Fuel.{reading-kept}
@@ -112,14 +112,14 @@ module _ (M : ℕ) (rs : List Row) (ss : List Span) where
   if-asked n e true r h = then-number n e r h
   if-asked n e false r h = of-map (Numbered n rs ss) (Numbered (n + 0) rs ss) (λ o v. record { spans = v .spans; count = omega (arith, v .count); is = v .is }) r h
 
-  coord-numbers : (d : ℕ) → Every (Of (Numbered (numbersOf d) rs ss)) (coord M d (out rs ss))
-  unfolding coord number numbersOf
+  coord-numbers : (d : ℕ) → Every (Of (Numbered (width d) rs ss)) (coord M d (out rs ss))
+  unfolding coord number width
   coord-numbers d =
       let none : Numbered 0 rs ss (out rs ss) = record { spans = []; count = refl; is = rw append-nil } in
-      every-bind (Of (Numbered 1 rs ss)) (Of (Numbered (numbersOf d) rs ss)) (number M 14 (out rs ss)) _ (λ t. take-number 0 14 (out rs ss) t none) λ x hx.
-      every-bind (Of (Numbered 2 rs ss)) (Of (Numbered (numbersOf d) rs ss)) (thenNumber M 15 x) _ (then-number 1 15 x hx) λ y hy.
-      every-bind (Of (Numbered (2 + cond (hasZ d) 1 0) rs ss)) (Of (Numbered (numbersOf d) rs ss)) (ifAsked M (hasZ d) 16 y) _ (if-asked 2 16 (hasZ d) y hy) λ z hz.
-      every-of (Numbered (2 + cond (hasZ d) 1 0 + cond (hasM d) 1 0) rs ss) (Numbered (numbersOf d) rs ss) (ifAsked M (hasM d) 17 z)
+      every-bind (Of (Numbered 1 rs ss)) (Of (Numbered (width d) rs ss)) (number M 14 (out rs ss)) _ (λ t. take-number 0 14 (out rs ss) t none) λ x hx.
+      every-bind (Of (Numbered 2 rs ss)) (Of (Numbered (width d) rs ss)) (thenNumber M 15 x) _ (then-number 1 15 x hx) λ y hy.
+      every-bind (Of (Numbered (2 + cond (hasZ d) 1 0) rs ss)) (Of (Numbered (width d) rs ss)) (ifAsked M (hasZ d) 16 y) _ (if-asked 2 16 (hasZ d) y hy) λ z hz.
+      every-of (Numbered (2 + cond (hasZ d) 1 0 + cond (hasM d) 1 0) rs ss) (Numbered (width d) rs ss) (ifAsked M (hasM d) 17 z)
       (λ o v. record { spans = v .spans; count = v .count ∙ omega arith; is = v .is }) (if-asked (2 + cond (hasZ d) 1 0) 17 (hasM d) z hz)
 
 -- ---- what was added to rs and ss is the rows and the number texts of one thing that Q holds of
@@ -157,7 +157,7 @@ adds-as ro nu Q ro′ nu′ Q′ k g h rs ss =
 coord-adds : (M d : ℕ) → Adds noRows coordTexts (CoordShape d) (coord M d)
 unfolding Adds
 coord-adds M d rs ss =
-    every-of (Numbered (numbersOf d) rs ss) (Added noRows coordTexts (CoordShape d) rs ss) (coord M d (out rs ss))
+    every-of (Numbered (width d) rs ss) (Added noRows coordTexts (CoordShape d) rs ss) (coord M d (out rs ss))
     (λ o v. record { thing = spanTexts (v .spans); good = length-map (v .spans) spanText ∙ v .count; spans = v .spans; its-texts = refl; is = rw append-nil (v .is) }) (coord-numbers M rs ss d)
 
 -- ---- lists by commas

@@ -5,13 +5,13 @@ use mathlib.Core.List.{List, [], _∷_, flatMap}
 use Prim.Native.Nat.{ℕ}
 use Rattle.scan.specs.Text.{bytes}
 use Rattle.scan.specs.Front.{begins}
-use Rattle.names.specs.Kinds.{kindPoint, kindLineString, kindPolygon, kindMultiPoint, kindGeometryCollection, dimXY, dimXYZ}
+use Rattle.names.specs.Kinds.{kindPoint, kindLineString, kindPolygon, kindMultiPoint, kindGeometryCollection, dimXY, dimXYZ, width}
 use Rattle.store.specs.Rows.{row}
-use Rattle.grammar.specs.Tree.{rowsWith, spell, each, separated, putParts, putNamed, putDimension, stringOf, putWith, numbersOf, multipointN, collectionN, rows, texts}
+use Rattle.grammar.specs.Tree.{rowsWith, spell, each, separated, putParts, putNamed, putDimension, stringOf, putWith, multipointN, collectionN, rows, texts}
 use Rattle.grammar.specs.Store.{onFront, asA, times, findText, findRow, exactlyOne, atMostOne, findParts, findNode, whole, treeIn, canonical}
 
 all : ℕ
-unfolding flatMap begins rowsWith spell each separated putParts putNamed putDimension stringOf putWith numbersOf onFront asA times findText findRow exactlyOne atMostOne findParts findNode whole
+unfolding flatMap begins rowsWith spell each separated putParts putNamed putDimension stringOf putWith width onFront asA times findText findRow exactlyOne atMostOne findParts findNode whole
 all = 0
 
 abbrev one : List ℕ

@@ -6,7 +6,7 @@ use lib.Dec.{eqb, ltb, leb}
 use lib.ListN.{length}
 use Rattle.names.specs.declared.Name.{Name}
 use Rattle.names.specs.declared.Ending.{Ending}
-use Rattle.names.specs.Kinds.{kindPoint, kindLineString, kindPolygon, kindMultiPoint, kindMultiLineString, kindMultiPolygon, kindGeometryCollection, dimXY, dimXYZ, dimXYM, dimXYZM}
+use Rattle.names.specs.Kinds.{kindPoint, kindLineString, kindPolygon, kindMultiPoint, kindMultiLineString, kindMultiPolygon, kindGeometryCollection, dimXY, dimXYZ, dimXYM, dimXYZM, hasZ, hasM}
 use Rattle.names.specs.Names.{meaning, ending, isEmptyWord}
 use Rattle.scan.specs.Bytes.{isAscii}
 use Rattle.names.specs.Lists.{every}
@@ -89,12 +89,6 @@ unfoldable pub thenNumber : ℕ → ℕ → Got → P Got
 thenNumber M e r = andThen r (number M e)
 
 -- "X, Y, then Z, M as the dimension asks (14, 15, 16, 17)"
-abbrev pub hasZ : ℕ → Bool
-hasZ d = eqb d dimXYZ || eqb d dimXYZM
-
-abbrev pub hasM : ℕ → Bool
-hasM d = eqb d dimXYM || eqb d dimXYZM
-
 -- a further number, if the dimension asks for it
 unfoldable pub ifAsked : ℕ → Bool → ℕ → Got → P Got
 ifAsked M asked e r = cond asked (thenNumber M e r) (ret r)

@@ -1,11 +1,12 @@
 -- How far a reading looks into a text.
 use Prim.Native.Nat.{ℕ}
 use mathlib.Core.List.{List}
+use Rattle.limits.specs.Limits.{depthLimit}
 use Rattle.tokenizer.specs.Stream.{Tok, tok, none-tk, Str, hd, tl}
 use Rattle.tokenizer.specs.Lex.{lex}
 use Rattle.grammar.specs.Demand.{P, ret, ask, look}
 use Rattle.grammar.specs.Grammar.{root}
-use Rattle.grammar.specs.Whole.{depthLimit, enough}
+use Rattle.grammar.specs.Whole.{enough}
 
 -- the last token of a stream that a reader takes or looks at (z, if there is none)
 unfoldable pub lastOf : {A : Type 0} → P A → Str → Tok → Tok

@@ -5,12 +5,12 @@ use mathlib.Core.Option.{Option, none, some}
 use mathlib.Core.List.{List, [], _∷_, map}
 use Prim.Native.Nat.{ℕ, zero, suc}
 use lib.Dec.{eqb, leb}
-use Rattle.names.specs.Kinds.{kindPoint, kindLineString, kindPolygon, kindMultiPoint, kindMultiLineString, kindMultiPolygon, kindGeometryCollection, dimXYZM}
+use Rattle.limits.specs.Limits.{depthLimit}
+use Rattle.names.specs.Kinds.{kindPoint, kindLineString, kindPolygon, kindMultiPoint, kindMultiLineString, kindMultiPolygon, kindGeometryCollection, dimXYZM, width}
 use Rattle.store.specs.Rows.{Row, row, Span, span}
-use Rattle.grammar.specs.Whole.{depthLimit}
 use Rattle.grammar.specs.Lists.{All}
 use Rattle.grammar.specs.Answers.{SpanIn}
-use Rattle.grammar.specs.Tree.{Coord, Node, pointN, lineN, polygonN, multipointN, multilineN, multipolygonN, collectionN, Tree, put, numbersOf}
+use Rattle.grammar.specs.Tree.{Coord, Node, pointN, lineN, polygonN, multipointN, multilineN, multipolygonN, collectionN, Tree, put}
 
 -- the bytes of a number row
 abbrev pub spanText : Span → List ℕ
@@ -48,7 +48,7 @@ findText rs [] = ill
 findText rs (x ∷ ns) = front x rs ns
 
 abbrev pub findCoord : ℕ → Finder Coord
-findCoord d = times findText (numbersOf d)
+findCoord d = times findText (width d)
 
 -- a row "of the kinds named and [..] of the parent's dimension": f gets its parts
 unfoldable pub findRow : {X : Type 0} → ℕ → ℕ → (ℕ → Finder X) → Finder X

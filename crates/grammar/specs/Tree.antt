@@ -8,12 +8,11 @@ use lib.ListN.{length}
 use Rattle.scan.specs.Bytes.{space, parenOpen, parenClose, comma, plus, isPlus}
 use Rattle.scan.specs.Front.{begins}
 use Rattle.number.specs.Lexeme.{isLexeme}
-use Rattle.names.specs.Kinds.{kindPoint, kindLineString, kindPolygon, kindMultiPoint, kindMultiLineString, kindMultiPolygon, kindGeometryCollection, dimXY, dimXYZM}
+use Rattle.names.specs.Kinds.{kindPoint, kindLineString, kindPolygon, kindMultiPoint, kindMultiLineString, kindMultiPolygon, kindGeometryCollection, dimXY, dimXYZM, width}
 use Rattle.names.specs.Letters.{isLetter}
 use Rattle.names.specs.Names.{names, endings}
 use Rattle.names.specs.Strings.{empty}
 use Rattle.store.specs.Rows.{Row, row}
-use Rattle.grammar.specs.Grammar.{hasZ, hasM}
 use Rattle.grammar.specs.Lists.{All}
 
 -- a coordinate is its number texts
@@ -172,13 +171,9 @@ put (suc d) t r = putNode (put d) t r
 abbrev pub IsDimension : ℕ → Type 0
 IsDimension d = d ≤ dimXYZM
 
--- how many numbers a coordinate of a dimension has
-unfoldable pub numbersOf : ℕ → ℕ
-numbersOf d = 2 + (cond (hasZ d) 1 0 + cond (hasM d) 1 0)
-
 -- "the numbers are exactly as many as needed"
 abbrev pub CoordShape : ℕ → Coord → Type 0
-CoordShape d c = length c ≡ numbersOf d
+CoordShape d c = length c ≡ width d
 
 abbrev pub LineShape : ℕ → List Coord → Type 0
 LineShape d cs = All (CoordShape d) cs

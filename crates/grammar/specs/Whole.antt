@@ -3,15 +3,11 @@ use mathlib.Core.Bool.{cond}
 use mathlib.Core.List.{List}
 use Prim.Native.Nat.{ℕ}
 use lib.ListN.{length}
-use Rattle.limits.specs.Limits.{textLimit, overLimit}
+use Rattle.limits.specs.Limits.{textLimit, overLimit, depthLimit}
 use Rattle.utf8.specs.Utf8.{isUtf8, firstIll}
 use Rattle.tokenizer.specs.Lex.{lex}
 use Rattle.grammar.specs.Demand.{run, answerIn}
 use Rattle.grammar.specs.Grammar.{Got, refused, refusal, root}
-
--- how many collections may be open: "a 33rd open collection" is refused
-abbrev pub depthLimit : ℕ
-depthLimit = 32
 
 -- the count down of the comma loops: more than any text has tokens, and the same for all texts
 abbrev pub enough : ℕ

@@ -1,4 +1,4 @@
--- The limit to the length of a text (document 01, "Refusal numbers").
+-- The limits to a text: its length and its depth (document 01, "Refusal numbers" and "The store").
 use Prim.Native.Nat.{ℕ}
 use mathlib.Core.Bool.{Bool}
 use lib.Dec.{ltb}
@@ -10,3 +10,7 @@ textLimit = 65535
 -- is a text of n bytes over the limit
 abbrev pub overLimit : ℕ → Bool
 overLimit n = ltb textLimit n
+
+-- "at most 32 non-empty collections lie on a path"; refusal 5 is "a 33rd open collection"
+abbrev pub depthLimit : ℕ
+depthLimit = 32

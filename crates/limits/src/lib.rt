@@ -1,10 +1,13 @@
-// The limit that the entries set to the length of a text.
+// The limits that the entries set to a text: its length and its depth.
 ghost use mathlib.Core.Path.{_≡_};
 ghost use lib.ListN.{length};
 ghost use Rattle.limits.specs.Limits.{overLimit};
 
 // The longest text that is read, in bytes.
 pub const TEXT_LIMIT: usize = 65_535;
+
+// How many collections may be open, one in the other.
+pub const DEPTH_LIMIT: u32 = 32;
 
 pub fn is_over(text: &[u8]) -> bool
     ensures { λ r. ⌜ r ≡ overLimit (length (now (text .entry))) ⌝ }

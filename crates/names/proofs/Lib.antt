@@ -3,3 +3,4 @@ pub mod Lookup
 pub mod Fronts
 pub mod Table
 pub mod Letters
+pub mod Widths

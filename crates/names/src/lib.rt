@@ -1,5 +1,6 @@
 // The names of the geometries, their endings, and the words that they make.
 ghost use mathlib.Core.Path.{_≡_};
+ghost use Rattle.names.specs.Kinds.{hasZ, hasM, width};
 ghost use Rattle.names.specs.Names.{meaning, ending, isEmptyWord, front, afterName};
 
 pub const POINT: [u8; 5] = *b"POINT";
@@ -71,6 +72,29 @@ pub enum Ending {
 pub enum Front {
     Begun(u32, usize),
     Other,
+}
+
+pub fn has_z(dimension: u32) -> bool
+    ensures { λ r. ⌜ r ≡ hasZ dimension ⌝ }
+{
+    (dimension == DIM_XYZ) | (dimension == DIM_XYZM)
+}
+
+pub fn has_m(dimension: u32) -> bool
+    ensures { λ r. ⌜ r ≡ hasM dimension ⌝ }
+{
+    (dimension == DIM_XYM) | (dimension == DIM_XYZM)
+}
+
+// How many numbers a coordinate has.
+pub fn width_of(dimension: u32) -> usize
+    ensures { λ r. ⌜ r ≡ width dimension ⌝ }
+{
+    if has_z(dimension) {
+        if has_m(dimension) { 4 } else { 3 }
+    } else {
+        if has_m(dimension) { 3 } else { 2 }
+    }
 }
 
 // Which of the four endings `w` is.

@@ -1,30 +1,19 @@
 // The letter `r`: the reader, lent two slices that are full of ones. Fields: node slice length, number slice length.
-use crate::numbers::u32_at;
+use crate::lines::put_left_over;
+use crate::lines::put_semicolon;
+use crate::lines::put_space;
+use crate::lines::put_three;
+use crate::numbers::field;
 use crate::records::FIRST_FIELD;
 use crate::records::MAX_SLICE;
 use crate::records::SECOND_FIELD;
 use crate::records::TEXT_AFTER_TWO;
 use printing::least;
-use printing::put;
-use printing::put_number;
 use printing::put_spaced;
 use store::NODE_WIDTH;
 use store::NUMBER_WIDTH;
 use wkt::ReadAnswer;
 ghost use Prim.Native.Nat.{_≤_};
-
-// Where the fields stand in a record.
-const NODES: usize = FIRST_FIELD;
-
-const NUMBERS: usize = SECOND_FIELD;
-
-fn fill(slice: &mut [u32]) {
-    let mut i = 0;
-    while i < slice.len() {
-        slice[i] = u32::MAX;
-        i += 1;
-    }
-}
 
 fn one_unless_zero(place: u32) -> usize
     ensures { λ r. ⌜ r ≤ 1 ⌝ }
@@ -43,11 +32,9 @@ fn left_over(slice: &[u32], from: usize) -> usize {
     count
 }
 
-fn put_answer(out: &mut [u8], at: usize, answer: ReadAnswer) -> usize {
-    let number = put_number(out, at, answer.number as usize);
-    let place = put_spaced(out, number, answer.place);
-    let nodes = put_spaced(out, place, answer.nodes);
-    put_spaced(out, nodes, answer.numbers)
+fn put_numbers(out: &mut [u8], at: usize, answer: ReadAnswer) -> usize {
+    let end = put_three(out, at, answer.number as usize, answer.place, answer.nodes);
+    put_spaced(out, end, answer.numbers)
 }
 
 fn wide(place: u32) -> usize {
@@ -67,28 +54,20 @@ fn put_places(out: &mut [u8], at: usize, slice: &[u32], used: usize) -> usize {
 
 // The used places of a slice, each after a space, or nothing after a space.
 fn put_rows(out: &mut [u8], at: usize, slice: &[u32], used: usize) -> usize {
-    let end = put(out, at, b" ;");
+    let end = put_semicolon(out, at);
     if used == 0 {
-        return put(out, end, b" ");
+        return put_space(out, end);
     }
     put_places(out, end, slice, used)
 }
 
-fn put_left_over(out: &mut [u8], at: usize, nodes: usize, numbers: usize) -> usize {
-    let end = put(out, at, b" ;");
-    let count = least(nodes, MAX_SLICE) + least(numbers, MAX_SLICE);
-    let end = put_spaced(out, end, count);
-    put(out, end, b"\n")
-}
-
-fn read_into(text: &[u8], nodes: &mut [u32], numbers: &mut [u32]) -> ReadAnswer {
-    fill(nodes);
-    fill(numbers);
-    wkt::read(text, nodes, numbers)
+// Of both slices together.
+fn left_over_of(nodes: &[u32], used: usize, numbers: &[u32], spans: usize) -> usize {
+    least(left_over(nodes, used), MAX_SLICE) + least(left_over(numbers, spans), MAX_SLICE)
 }
 
 // The line of an answer that left the slices so.
-fn put_reading(
+fn put_answer(
     out: &mut [u8],
     at: usize,
     answer: ReadAnswer,
@@ -97,30 +76,14 @@ fn put_reading(
 ) -> usize {
     let node_places = least(answer.nodes, MAX_SLICE) * NODE_WIDTH;
     let number_places = least(answer.numbers, MAX_SLICE) * NUMBER_WIDTH;
-    let end = put_answer(out, at, answer);
+    let end = put_numbers(out, at, answer);
     let end = put_rows(out, end, nodes, node_places);
     let end = put_rows(out, end, numbers, number_places);
-    put_left_over(
-        out,
-        end,
-        left_over(nodes, node_places),
-        left_over(numbers, number_places),
-    )
+    let left = left_over_of(nodes, node_places, numbers, number_places);
+    put_left_over(out, end, left)
 }
 
 fn read_and_put(
-    text: &[u8],
-    nodes: &mut [u32],
-    numbers: &mut [u32],
-    out: &mut [u8],
-    at: usize,
-) -> usize {
-    let answer = read_into(text, nodes, numbers);
-    put_reading(out, at, answer, nodes, numbers)
-}
-
-// The line of a record of this letter.
-pub(crate) fn answer(
     record: &[u8],
     nodes: &mut [u32],
     numbers: &mut [u32],
@@ -128,13 +91,26 @@ pub(crate) fn answer(
     at: usize,
 ) -> usize {
     let text = least(TEXT_AFTER_TWO, record.len());
-    let node_places = least(u32_at(record, NODES), nodes.len());
-    let number_places = least(u32_at(record, NUMBERS), numbers.len());
+    let answer = wkt::read(&record[text..], nodes, numbers);
+    put_answer(out, at, answer, nodes, numbers)
+}
+
+// Parts of the arrays as long as the record asks for.
+fn lend(record: &[u8], nodes: &mut [u32], numbers: &mut [u32], out: &mut [u8], at: usize) -> usize {
+    let node_places = least(field(record, FIRST_FIELD), nodes.len());
+    let number_places = least(field(record, SECOND_FIELD), numbers.len());
     read_and_put(
-        &record[text..],
+        record,
         &mut nodes[0..node_places],
         &mut numbers[0..number_places],
         out,
         at,
     )
+}
+
+// The line of a record of this letter.
+pub(crate) fn answer(record: &[u8], out: &mut [u8], at: usize) -> usize {
+    let mut nodes = [u32::MAX; MAX_SLICE];
+    let mut numbers = [u32::MAX; MAX_SLICE];
+    lend(record, &mut nodes, &mut numbers, out, at)
 }

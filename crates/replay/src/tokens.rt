@@ -1,14 +1,17 @@
 // The letters `t` and `p`: a cursor is put at a place of a text, and so many tokens are taken. Fields: place, count.
-use crate::found::put_found;
-use crate::found::same_found;
-use crate::numbers::u32_at;
+use crate::found::Shown;
+use crate::found::put_shown;
+use crate::found::same;
+use crate::found::show;
+use crate::lines::put_end;
+use crate::lines::put_space;
+use crate::numbers::field;
 use crate::records::FIRST_FIELD;
 use crate::records::SECOND_FIELD;
 use crate::records::TEXT_AFTER_TWO;
 use printing::least;
 use printing::put;
 use tokenizer::Cursor;
-use tokenizer::Found;
 
 // Where the fields stand in a record.
 const PLACE: usize = FIRST_FIELD;
@@ -24,7 +27,7 @@ pub(crate) enum Demand {
 
 // What was taken, whether each look before saw the same, and the cursor to go on with.
 struct Demanded {
-    found: Found,
+    found: Shown,
     agreed: bool,
     next: Cursor,
 }
@@ -33,6 +36,7 @@ fn take(cursor: Cursor, text: &[u8]) -> Demanded {
     let taken = cursor.take(text);
     let found = taken.found;
     let next = taken.next;
+    let found = show(found);
     Demanded {
         found,
         agreed: true,
@@ -50,7 +54,8 @@ fn look_and_take(cursor: Cursor, text: &[u8]) -> Demanded {
     let taken = cursor.take(text);
     let found = taken.found;
     let next = taken.next;
-    let agreed = same_found(first, found) & same_found(second, found);
+    let found = show(found);
+    let agreed = same(show(first), found) & same(show(second), found);
     Demanded {
         found,
         agreed,
@@ -69,7 +74,7 @@ fn demand_one(cursor: Cursor, text: &[u8], demand: Demand) -> Demanded {
 // contracts a look sees what is taken next.
 fn put_demanded(out: &mut [u8], at: usize, demanded: Demanded) -> usize {
     let found = demanded.found;
-    let end = put_found(out, at, found);
+    let end = put_shown(out, at, found);
     if demanded.agreed {
         end
     } else {
@@ -95,7 +100,7 @@ fn put_tokens(
         cursor = demanded.next;
         left -= 1;
         if left > 0 {
-            end = put(out, end, b" ");
+            end = put_space(out, end);
         }
     }
     end
@@ -104,14 +109,14 @@ fn put_tokens(
 // The line of a record of one of these letters.
 pub(crate) fn answer(record: &[u8], demand: Demand, out: &mut [u8], at: usize) -> usize {
     let text = least(TEXT_AFTER_TWO, record.len());
-    let cursor = Cursor::new(u32_at(record, PLACE));
+    let cursor = Cursor::new(field(record, PLACE));
     let end = put_tokens(
         &record[text..],
         cursor,
-        u32_at(record, COUNT),
+        field(record, COUNT),
         demand,
         out,
         at,
     );
-    put(out, end, b"\n")
+    put_end(out, end)
 }

@@ -12,7 +12,7 @@ use borrow.Author.Tests.{eq-eqb, ne-eqb, le-leb, lt-leb}
 use lib.ListN.{length, drop, drop-of-length-le}
 use lib.Seq.{drop-cons, set-out}
 use Rattle.shape.specs.declared.Frame.{Frame}
-use Rattle.shape.specs.Nodes.{noKind, width, above, fewer, ends}
+use Rattle.shape.specs.Nodes.{noKind, above, fewer, ends}
 use Rattle.shape.specs.Walk.{frames, frameAt, spent, closeAt, closeFrom}
 
 -- what owning a struct tells of its array of structs
@@ -20,15 +20,6 @@ pub length-mapped : (X Y : Type 0) (g : X → Y) (l : List X) (n : ℕ) → leng
 length-mapped X Y g [] n e = e
 length-mapped X Y g (x ∷ l) zero e = absurd (omega arith)
 length-mapped X Y g (x ∷ l) (suc n) e = ap suc (length-mapped X Y g l n (omega arith))
-
-pub width-le : (d : ℕ) → width d ≤ 4
-unfolding width
-width-le d = go (eqb d 0) (eqb d 3)
-  where
-    go : (a b : Bool) → cond a 2 (cond b 4 3) ≤ 4
-    go true b = omega arith
-    go false true = omega arith
-    go false false = omega arith
 
 pub four-fit : (n w : ℕ) → n < 4294967296 → w ≤ 4 → n * w < 18446744073709551616
 four-fit n zero h l = omega arith

@@ -8,10 +8,11 @@ use native.Mathlib.Omega.{arith}
 use lib.Dec.{eqb, leb, ltb}
 use borrow.Author.Tests.{ne-eqb, eqb-true, leb-true, ltb-true}
 use lib.ListN.{length}
+use Rattle.limits.specs.Limits.{depthLimit}
 use Rattle.names.specs.Kinds.{kindPoint, kindLineString, kindMultiPoint, kindMultiPolygon, kindGeometryCollection}
 use Rattle.shape.specs.declared.Frame.{Frame}
 use Rattle.shape.specs.declared.Visit.{Visit}
-use Rattle.shape.specs.Nodes.{noKind, depthLimit, above, isFree, childKind, isGeometry, isChild, isAllowed, isLeaf, isCollection, mayOpen, opened, fewer, after}
+use Rattle.shape.specs.Nodes.{noKind, above, isFree, childKind, isGeometry, isChild, isAllowed, isLeaf, isCollection, mayOpen, opened, fewer, after}
 use Rattle.shape.specs.Walk.{frames}
 
 -- how many open nodes may stand below one of this kind, collections aside: in a collection a multipolygon and its polygon

@@ -12,6 +12,7 @@ use lib.Dec.{eqb, leb, ltb}
 use borrow.Author.Tests.{ne-eqb, lt-ltb, le-ltb, leb-true, leb-false}
 use lib.ListN.{length, drop, set, getD, length-set, length-drop, length-replicate, drop-of-length-le, List·getD-append}
 use lib.Seq.{drop-cons, drop-drop, drop-set-lt, getD-set-same, getD-append-add}
+use Rattle.limits.specs.Limits.{depthLimit}
 use Rattle.store.specs.Rows.{row, nodeRoom, rowAt, firsts, rowsIn}
 use Rattle.store.proofs.Cells.{firsts-length}
 use Rattle.store.proofs.Rows.{rows-length}
@@ -21,7 +22,7 @@ use Rattle.shape.specs.declared.Visit.{Visit}
 use Rattle.shape.specs.declared.Found.{Found}
 use Rattle.shape.specs.declared.Found.the-variants.{Node, Done, Ill}
 use Rattle.shape.specs.declared.Step.{Step}
-use Rattle.shape.specs.Nodes.{depthLimit, above, visitOf, numbersOf, isLeaf, isAllowed, isCollection, mayOpen, opened, fewer, after, isOpen, ending, follow, atLast, visitsBy, visits, treeOf}
+use Rattle.shape.specs.Nodes.{above, visitOf, numbersOf, isLeaf, isAllowed, isCollection, mayOpen, opened, fewer, after, isOpen, ending, follow, atLast, visitsBy, visits, treeOf}
 use Rattle.shape.specs.Walk.{frames, stepTo, ill, frameAt, begin, atEnd, spent, closeFrom, endAt, passing, pushing, entering, stepAt, step, rowsFrom, openAt, ahead}
 use Rattle.shape.proofs.Frames.{top-cut}
 use Rattle.shape.proofs.Nested.{Nested, depth-limit, nested-above, nested-after, nested-open}

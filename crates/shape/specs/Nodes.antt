@@ -6,7 +6,8 @@ use mathlib.Core.Option.{Option, none, some}
 use mathlib.Core.List.{List, [], _∷_}
 use Prim.Native.Nat.{ℕ, _+_, _-_, _*_}
 use lib.Dec.{eqb, leb, ltb}
-use Rattle.names.specs.Kinds.{kindPoint, kindLineString, kindPolygon, kindMultiPoint, kindMultiPolygon, kindGeometryCollection, dimXY, dimXYZM}
+use Rattle.limits.specs.Limits.{depthLimit}
+use Rattle.names.specs.Kinds.{kindPoint, kindLineString, kindPolygon, kindMultiPoint, kindMultiPolygon, kindGeometryCollection, dimXY, dimXYZM, width}
 use Rattle.store.specs.Rows.{Row, row, nodeRoom, rowsIn}
 use Rattle.shape.specs.declared.Frame.{Frame}
 use Rattle.shape.specs.declared.Visit.{Visit}
@@ -14,9 +15,6 @@ use Rattle.shape.specs.declared.Visit.{Visit}
 -- above the root
 abbrev pub noKind : ℕ
 noKind = 0
-
-abbrev pub depthLimit : ℕ
-depthLimit = 32
 
 abbrev pub frame : ℕ → ℕ → ℕ → ℕ → ℕ → Frame
 frame i k d depth left = record { row = i; kind = k; dimension = d; depth = depth; left = left }
@@ -28,10 +26,6 @@ above = frame 0 noKind 0 0 0
 -- the node of row i below a parent, its numbers from number row j on
 abbrev pub visitOf : ℕ → ℕ → Frame → Row → Visit
 visitOf i j f (row k d n) = record { row = i; number = j; kind = k; dimension = d; parts = n; parent = f; ends = 0; more = false }
-
--- how many numbers a coordinate has
-unfoldable pub width : ℕ → ℕ
-width d = cond (eqb d dimXY) 2 (cond (eqb d dimXYZM) 4 3)
 
 -- "parts (coordinates for kinds 1 and 2, children otherwise)": how many numbers a node has itself
 unfoldable pub numbersOf : Visit → ℕ

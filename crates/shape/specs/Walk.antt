@@ -5,6 +5,7 @@ use mathlib.Core.List.{List, [], _∷_}
 use Prim.Native.Nat.{ℕ, suc, _+_, _-_, _^_, _≤_, _<_}
 use lib.Dec.{eqb, leb, ltb}
 use lib.ListN.{drop, getD, set, replicate}
+use Rattle.limits.specs.Limits.{depthLimit}
 use Rattle.store.specs.Rows.{Row, nodeRoom, rowAt, rowsIn}
 use Rattle.shape.specs.declared.Frame.{Frame}
 use Rattle.shape.specs.declared.Cursor.{Cursor}
@@ -13,7 +14,7 @@ use Rattle.shape.specs.declared.Visit.{Visit}
 use Rattle.shape.specs.declared.Found.{Found}
 use Rattle.shape.specs.declared.Found.the-variants.{Node, Done, Ill}
 use Rattle.shape.specs.declared.Step.{Step}
-use Rattle.shape.specs.Nodes.{depthLimit, frame, above, visitOf, numbersOf, isLeaf, isAllowed, isCollection, fewer, ends, ending, visits}
+use Rattle.shape.specs.Nodes.{frame, above, visitOf, numbersOf, isLeaf, isAllowed, isCollection, fewer, ends, ending, visits}
 
 -- how many frames a cursor has
 abbrev pub frames : ℕ

@@ -3,11 +3,11 @@ ghost use mathlib.Core.Path.{_≡_};
 ghost use lib.Dec.{leb};
 ghost use Prim.Native.Nat.{_+_};
 ghost use Rattle.store.specs.Rows.{rowAt};
-ghost use Rattle.shape.specs.Nodes.{width, visitOf, isLeaf, numbersOf, isFree, childKind, isGeometry, isChild, isAllowed, ending, isTree};
+ghost use Rattle.shape.specs.Nodes.{visitOf, isLeaf, numbersOf, isFree, childKind, isGeometry, isChild, isAllowed, ending, isTree};
 ghost use Rattle.shape.specs.Numbers.{textAt, isNumberAt, areNumbers};
 ghost use Rattle.shape.specs.Store.{wellFormed};
 ghost use Rattle.shape.specs.Walk.{HasNext, Pushes, closeFrom, ill, begin, atEnd, passing, pushing, entering, step};
-use names::DIM_XY;
+use limits::DEPTH_LIMIT;
 use names::DIM_XYZM;
 use names::KIND_GEOMETRYCOLLECTION;
 use names::KIND_LINESTRING;
@@ -20,9 +20,6 @@ use store::NUMBER_WIDTH;
 
 // The refusal of a store that is ill formed.
 pub const ILL_FORMED: u32 = 22;
-
-// How many non-empty collections may lie on a path.
-pub const DEPTH_LIMIT: u32 = 32;
 
 // Above the root stands no kind.
 pub const NO_KIND: u32 = 0;
@@ -82,25 +79,12 @@ struct Closed {
     frames: [Frame; FRAMES],
 }
 
-// How many numbers a coordinate has.
-pub fn width_of(dimension: u32) -> usize
-    ensures { λ r. ⌜ r ≡ width dimension ⌝ }
-{
-    if dimension == DIM_XY {
-        return 2;
-    }
-    if dimension == DIM_XYZM {
-        return 4;
-    }
-    3
-}
-
 // How many numbers a node has itself.
 pub fn numbers_of(v: Visit) -> usize
     ensures { λ r. ⌜ r ≡ numbersOf v ⌝ }
 {
     if v.kind <= KIND_LINESTRING {
-        return (v.parts as usize) * width_of(v.dimension);
+        return (v.parts as usize) * names::width_of(v.dimension);
     }
     0
 }

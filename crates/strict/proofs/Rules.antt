@@ -10,9 +10,9 @@ use native.Mathlib.Nat.{suc-mul}
 use borrow.Author.Tests.{eq-eqb, ne-eqb, eqb-true, le-leb}
 use lib.ListN.{length, getD, drop, drop-of-length-le}
 use lib.Seq.{drop-cons}
-use Rattle.names.specs.Kinds.{kindLineString}
+use Rattle.names.specs.Kinds.{kindLineString, width}
 use Rattle.shape.specs.declared.Visit.{Visit}
-use Rattle.shape.specs.Nodes.{width, numbersOf, isLeaf}
+use Rattle.shape.specs.Nodes.{numbersOf, isLeaf}
 use Rattle.shape.specs.Numbers.{textAt}
 use Rattle.store.specs.Rows.{numberRoom}
 use Rattle.strict.specs.Rules.{sameBytes, sameTexts, isRing, HasNumbers}

@@ -3,10 +3,9 @@ use mathlib.Core.Bool.{Bool, true, false, cond, not, _&&_}
 use mathlib.Core.List.{List, [], _∷_}
 use Prim.Native.Nat.{ℕ, zero, suc, _+_, _-_, _*_, _^_, _≤_, _<_}
 use lib.Dec.{eqb, ltb}
-use Rattle.names.specs.Kinds.{kindLineString, kindPolygon, kindGeometryCollection}
+use Rattle.names.specs.Kinds.{kindLineString, kindPolygon, kindGeometryCollection, width}
 use Rattle.store.specs.Rows.{numberRoom}
 use Rattle.shape.specs.declared.Visit.{Visit}
-use Rattle.shape.specs.Nodes.{width}
 use Rattle.shape.specs.Numbers.{textAt}
 
 -- a letter's ASCII byte

@@ -64,7 +64,7 @@ fn is_closed(text: &[u8], numbers: &[u32], v: Visit) -> bool
     if v.parts == 0 {
         return true;
     }
-    let width = shape::width_of(v.dimension);
+    let width = names::width_of(v.dimension);
     let last = v.number + ((v.parts - 1) as usize) * width;
     same_texts(text, numbers, v.number, last, width)
 }

@@ -11,11 +11,12 @@ use borrow.Author.Tests.{le-leb, ne-eqb}
 use lib.ListN.{length, getD}
 use Rattle.scan.specs.Bytes.{space, comma, parenClose, plus}
 use Rattle.scan.specs.Front.{begins}
-use Rattle.names.specs.Kinds.{kindLineString}
+use Rattle.names.specs.Kinds.{kindLineString, width}
 use Rattle.names.specs.Names.{names, endings}
 use Rattle.store.specs.Rows.{numberRoom}
 use Rattle.shape.specs.declared.Visit.{Visit}
-use Rattle.shape.specs.Nodes.{width, numbersOf, isLeaf}
+use Rattle.names.proofs.Widths.{width-some}
+use Rattle.shape.specs.Nodes.{numbersOf, isLeaf}
 use Rattle.shape.specs.Numbers.{textAt}
 use Rattle.to_wkt.specs.Canonical.{startsPlused, needsPlus, spell, putNumber, putSpaced, putCoordinate, putListed, putClosings, stringOf}
 use Rattle.to_wkt.specs.Write.{HasNumbers}
@@ -95,14 +96,8 @@ fewer-numbers w n i h = rw (less n i h) (suc-mul (n - (i + 1)) w ∙ add-comm _ 
 pub all-numbers : (w n : ℕ) → 1 ≤ n → n * w ≡ w + (n - 1) * w
 all-numbers w n h = let z : n ≡ suc (n - 1) = omega arith in ap (λ m. m * w) z ∙ suc-mul (n - 1) w ∙ add-comm _ _
 
-pub width-some : (d w : ℕ) → w ≡ width d → 1 ≤ w
-unfolding width
-width-some d w e = rw e (go (eqb d 0) (eqb d 3))
-  where
-    go : (a b : Bool) → 1 ≤ cond a 2 (cond b 4 3)
-    go true b = omega arith
-    go false true = omega arith
-    go false false = omega arith
+pub width-wide : (d w : ℕ) → w ≡ width d → 1 ≤ w
+width-wide d w e = omega (arith, e, width-some d)
 
 -- what a walk tells of a node's numbers
 pub has-numbers : (numbers : List ℕ) (v : Visit) → (isLeaf v ≡ true → v .number + numbersOf v ≤ numberRoom numbers) → HasNumbers numbers v

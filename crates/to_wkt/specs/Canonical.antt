@@ -6,12 +6,12 @@ use Prim.Native.Nat.{ℕ, zero, suc, _+_, _-_}
 use lib.Dec.{eqb, leb}
 use Rattle.scan.specs.Bytes.{space, parenOpen, parenClose, comma, plus, isPlus}
 use Rattle.scan.specs.Front.{begins}
-use Rattle.names.specs.Kinds.{kindLineString, dimXY}
+use Rattle.names.specs.Kinds.{kindLineString, dimXY, width}
 use Rattle.names.specs.Letters.{isLetter}
 use Rattle.names.specs.Names.{names, endings}
 use Rattle.names.specs.Strings.{empty}
 use Rattle.shape.specs.declared.Visit.{Visit}
-use Rattle.shape.specs.Nodes.{width, isFree, theVisits}
+use Rattle.shape.specs.Nodes.{isFree, theVisits}
 use Rattle.shape.specs.Numbers.{textAt}
 use Rattle.shape.specs.Store.{visitsOf}
 

@@ -6,10 +6,9 @@ use mathlib.Core.List.{List}
 use Prim.Native.Nat.{ℕ, _+_, _*_, _^_, _≤_, _<_}
 use lib.Dec.{leb}
 use lib.ListN.{length}
-use Rattle.names.specs.Kinds.{kindLineString}
+use Rattle.names.specs.Kinds.{kindLineString, width}
 use Rattle.store.specs.Rows.{zeros, padded, numberRoom}
 use Rattle.shape.specs.declared.Visit.{Visit}
-use Rattle.shape.specs.Nodes.{width}
 use Rattle.shape.specs.Store.{illFormed}
 use Rattle.to_wkt.specs.declared.WriteAnswer.{WriteAnswer}
 use Rattle.to_wkt.specs.Canonical.{canonical}

@@ -182,7 +182,7 @@ fn put_body(out: &mut [u8], p: Pen, text: &[u8], numbers: &[u32], v: Visit) -> P
     if KIND_LINESTRING < v.kind {
         return open;
     }
-    let width = shape::width_of(v.dimension);
+    let width = names::width_of(v.dimension);
     let q = put_coordinates(out, open, text, numbers, v.number, width, v.parts as usize);
     pen::put_byte(out, q, b')')
 }

@@ -9,6 +9,7 @@ use lib.Dec.{eqb, ltb}
 use lib.ListN.{length, drop, length-drop}
 use lib.Seq.{length-take-le}
 use borrow.Author.Tests.{eq-eqb, ne-eqb, lt-ltb, le-ltb}
+use Rattle.names.specs.Kinds.{hasZ, hasM}
 use Rattle.tokenizer.specs.declared.Refusal.{Refusal}
 use Rattle.tokenizer.specs.Tokens.{badAt}
 use Rattle.tokenizer.specs.Stream.{hd, spanIn, toks}
@@ -16,7 +17,7 @@ use Rattle.store.specs.Rows.{Row, Span, span, numberRoom, spansIn, putSpan}
 use Rattle.store.proofs.Rows.{spans-length, spans-put}
 use Rattle.grammar.specs.Demand.{ret, run}
 use Rattle.grammar.specs.Tokens.{sortBad, sortNumber, sortOf, textOf}
-use Rattle.grammar.specs.Grammar.{refusal, andThen, number, thenNumber, ifAsked, hasZ, hasM, coord}
+use Rattle.grammar.specs.Grammar.{refusal, andThen, number, thenNumber, ifAsked, coord}
 use Rattle.grammar.proofs.Demand.{run-ret, run-step}
 use Rattle.wkt.specs.Seen.{Takes}
 use Rattle.wkt.specs.Means.{usedBy, gotOf, behind, Room, Fine, FineAny, Met, MetNumber, MetOn, MetCoord}

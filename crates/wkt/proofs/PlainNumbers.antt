@@ -9,6 +9,7 @@ use native.Mathlib.Numerals.{add-one}
 use lib.Dec.{eqb, ltb}
 use lib.ListN.{length, getD}
 use borrow.Author.Tests.{eqb-true, ne-eqb, lt-ltb}
+use Rattle.names.specs.Kinds.{hasZ, hasM, width}
 use Rattle.scan.specs.Bytes.{isBlank, isStop, isDigit, isSign, isPlus, isPoint, isNumberlike, plus, minus}
 use Rattle.scan.specs.Runs.{firstNot, afterOneAt}
 use Rattle.scan.proofs.Bytes.{or-elim, digit-low}
@@ -22,9 +23,7 @@ use Rattle.tokenizer.specs.Tokens.{read, afterBlank, numberAt, tokenAt, readAt}
 use Rattle.tokenizer.proofs.Tokens.{number-is, other-is}
 use Rattle.store.specs.Rows.{numberRoom, spansIn, putSpan}
 use Rattle.store.proofs.Rows.{putSpan-length, spans-before}
-use Rattle.grammar.specs.Tree.{numbersOf}
 use Rattle.grammar.specs.Tokens.{sortNumber}
-use Rattle.grammar.specs.Grammar.{hasZ, hasM}
 use Rattle.wkt.specs.Seen.{Takes}
 use Rattle.wkt.specs.Means.{Room, usedBy, MetNumber, MetCoord}
 use Rattle.wkt.specs.Plain.{state, PlainEnd, Kept, MetPlain, Numbers, none, more, MetPlains}
@@ -152,21 +151,9 @@ module _ {text : List ℕ} {i used : ℕ} {ms : List ℕ} (d n : ℕ) where
 pub all-read : {text : List ℕ} {width k i used r : ℕ} {ms ms′ : List ℕ} → k ≤ width → width ≤ k → Kept text used ms ms′ → Numbers text i used ms k (used + k) r ms′ → MetPlains text width i used ms r ms′
 all-read {width = width} {k = k} l h a c = let e : width ≡ k = omega arith in rw e (record { kept = a; numbers = λ z. c })
 
-pub width-is : (d : ℕ) {z m : Bool} → hasZ d ≡ z → hasM d ≡ m → 2 + (cond z 1 0 + cond m 1 0) ≡ numbersOf d
-unfolding numbersOf
-width-is d z m = rw (z, m)
-
-bit-few : (b : Bool) → cond b 1 0 ≤ 1
-bit-few true = omega arith
-bit-few false = omega arith
-
-pub width-few : (d : ℕ) → numbersOf d ≤ 4
-unfolding numbersOf
-width-few d = omega (arith, bit-few (hasZ d), bit-few (hasM d))
-
 -- as many as the dimension asks for are a coordinate
-pub plain-coord : {text : List ℕ} {d k u : ℕ} {s : State} {ms ms′ : List ℕ} {r : ℕ} → k ≡ numbersOf d → Numbers text (s .at) (s .numbers) ms k u r ms′ → MetCoord text d s ms (Done (state r (s .nodes) u)) ms′
-unfolding numbersOf
+pub plain-coord : {text : List ℕ} {d k u : ℕ} {s : State} {ms ms′ : List ℕ} {r : ℕ} → k ≡ width d → Numbers text (s .at) (s .numbers) ms k u r ms′ → MetCoord text d s ms (Done (state r (s .nodes) u)) ms′
+unfolding width
 plain-coord {text} {d} {k} {u} {s} e c = by-width d (s .nodes) (hasZ d) (hasM d) refl refl k e c
 
 -- what was kept is read token by token

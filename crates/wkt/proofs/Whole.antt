@@ -7,7 +7,7 @@ use Prim.Native.Nat.{ℕ, _+_, _*_, _≤_, _<_, _^_}
 use native.Mathlib.Omega.{arith}
 use lib.ListN.{length}
 use borrow.Author.Tests.{lt-ltb, eq-eqb, ne-eqb, ltb-false}
-use Rattle.limits.specs.Limits.{textLimit, overLimit}
+use Rattle.limits.specs.Limits.{textLimit, overLimit, depthLimit}
 use Rattle.utf8.specs.Utf8.{firstIll}
 use Rattle.utf8.proofs.Walk.{in-text}
 use Rattle.tokenizer.specs.declared.Refusal.{Refusal}
@@ -18,7 +18,7 @@ use Rattle.store.proofs.Rows.{rows-length, rows-cleared, spans-length, spans-cl
 use Rattle.grammar.specs.Demand.{run, answerIn}
 use Rattle.grammar.specs.Grammar as spec
 use Rattle.grammar.specs.Grammar.{out, refused, rootHead, root}
-use Rattle.grammar.specs.Whole.{depthLimit, enough, reading}
+use Rattle.grammar.specs.Whole.{enough, reading}
 use Rattle.grammar.proofs.Demand.{run-step}
 use Rattle.wkt.specs.Means.{gotOf, Room, Fine, MetHead, Reads, onAt, headEnd, geometryOf}
 use Rattle.wkt.specs.Whole.{Leaves, rootIn, Within, Finishes}

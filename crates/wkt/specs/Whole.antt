@@ -3,12 +3,13 @@ use mathlib.Core.Path.{_≡_, sym, _∙_}
 use mathlib.Core.List.{List, []}
 use Prim.Native.Nat.{ℕ, _≤_}
 use lib.ListN.{length}
+use Rattle.limits.specs.Limits.{depthLimit}
 use Rattle.tokenizer.specs.declared.Refusal.{Refusal}
 use Rattle.tokenizer.specs.Stream.{toks}
 use Rattle.store.specs.Rows.{nodeRoom, numberRoom, rowsIn, spansIn, flatRows, flatSpans, padded}
 use Rattle.grammar.specs.Demand.{run, answerIn}
 use Rattle.grammar.specs.Grammar.{out, Got, ok, refused, halt, root}
-use Rattle.grammar.specs.Whole.{depthLimit, enough, reading}
+use Rattle.grammar.specs.Whole.{enough, reading}
 use Rattle.wkt.specs.Means.{gotOf}
 use Rattle.wkt.specs.declared.Answer.{Answer}
 use Rattle.wkt.specs.declared.Answer.the-variants.{Done, Refused, Stopped}

@@ -9,26 +9,13 @@ use crate::State;
 use crate::plain_coord;
 use crate::seen;
 use crate::seen::NUMBER;
-use names::DIM_XYM;
-use names::DIM_XYZ;
-use names::DIM_XYZM;
+use names::has_m;
+use names::has_z;
+use names::width_of;
 use tokenizer::Refusal;
-ghost use mathlib.Core.Path.{_≡_};
 ghost use Rattle.store.specs.Rows.{numberRoom};
-ghost use Rattle.grammar.specs.Grammar.{thenNumber, ifAsked, hasZ, hasM};
+ghost use Rattle.grammar.specs.Grammar.{thenNumber, ifAsked};
 ghost use Rattle.wkt.specs.Means.{Room, FineAny, MetNumber, MetOn, MetCoord};
-
-pub fn has_z(dimension: u32) -> bool
-    ensures { λ r. ⌜ r ≡ hasZ dimension ⌝ }
-{
-    (dimension == DIM_XYZ) | (dimension == DIM_XYZM)
-}
-
-pub fn has_m(dimension: u32) -> bool
-    ensures { λ r. ⌜ r ≡ hasM dimension ⌝ }
-{
-    (dimension == DIM_XYM) | (dimension == DIM_XYZM)
-}
 
 // A number and its row, or the refusal `missing`.
 fn number(text: &[u8], numbers: &mut [u32], missing: u32, s: State) -> Answer
@@ -108,7 +95,7 @@ pub fn coord(text: &[u8], numbers: &mut [u32], dimension: u32, s: State) -> Answ
     let at = s.at;
     let nodes = s.nodes;
     let used = s.numbers;
-    let width = plain_coord::width_of(dimension);
+    let width = width_of(dimension);
     let end = plain_coord::coord(text, numbers, width, at, used);
     if at < end {
         return Answer::Done(State {

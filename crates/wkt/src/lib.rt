@@ -10,6 +10,7 @@ mod point;
 mod polygon;
 mod seen;
 
+use limits::DEPTH_LIMIT;
 use limits::TEXT_LIMIT;
 use names::DIM_XY;
 use names::Ending;
@@ -75,9 +76,6 @@ const NO_M: u32 = 17;
 
 const NO_CHILD: u32 = 18;
 
-// How many collections may be open.
-const DEPTH_LIMIT: u32 = 32;
-
 // Where a reader stands, and how many rows are used.
 pub struct State {
     pub at: usize,
@@ -85,14 +83,15 @@ pub struct State {
     pub numbers: usize,
 }
 
-// What reading a part came to. After `Refused` the closing token is still taken; `Stopped` ends the reading at once.
+// What reading a part came to, and last the place to read on from. After `Refused` the closing token is still taken;
+// `Stopped` ends the reading at once.
 pub enum Answer {
     Done(State),
     Refused(Refusal, usize),
     Stopped(Refusal, usize),
 }
 
-// What stands after a name: `(` or EMPTY, with the kind, the dimension and the place.
+// What stands after a name: `(` or EMPTY, with the kind, the dimension, its place, and last the place to read on from.
 pub enum Head {
     Opens(u32, u32, usize, usize),
     Empty(u32, u32, usize, usize),

@@ -1,29 +1,14 @@
 // Plain numbers, as most are: digits, perhaps behind a minus and with a point among them, and a stop right behind them.
 // They are read here without a token for each; whatever else stands there is left to `coord`.
-use crate::coord::has_m;
-use crate::coord::has_z;
 use scan::after_blank;
 use scan::after_point;
 use scan::after_sign;
 use scan::digits_end;
 use scan::is_stop;
-ghost use mathlib.Core.Path.{_≡_};
 ghost use Prim.Native.Nat.{_+_, _≤_, _<_, _^_};
 ghost use lib.ListN.{length};
 ghost use Rattle.store.specs.Rows.{numberRoom};
-ghost use Rattle.grammar.specs.Tree.{numbersOf};
 ghost use Rattle.wkt.specs.Plain.{PlainEnd, MetPlain, MetPlains};
-
-// How many numbers a coordinate has.
-pub fn width_of(dimension: u32) -> usize
-    ensures { λ r. ⌜ r ≡ numbersOf dimension ⌝ }
-{
-    if has_z(dimension) {
-        if has_m(dimension) { 4 } else { 3 }
-    } else {
-        if has_m(dimension) { 3 } else { 2 }
-    }
-}
 
 // Where the plain number that stands at `at` ends, or `at` where there is none.
 fn end_of(text: &[u8], at: usize) -> usize

@@ -2,15 +2,18 @@
 
 use crate::any_bytes;
 use crate::random::Random;
+use crate::store_cases;
 use driver::record::{Record, Request, MAX_SLICE};
 
-/// The letters that both sides can answer.
+/// The letters of the replay program.
 #[derive(Clone, Copy, Debug, PartialEq, Eq)]
 pub enum Letter {
     Take,
     LookAndTake,
     Read,
     Infer,
+    Write,
+    Check,
 }
 
 impl Letter {
@@ -20,11 +23,18 @@ impl Letter {
             'p' => Some(Letter::LookAndTake),
             'r' => Some(Letter::Read),
             'i' => Some(Letter::Infer),
+            'w' => Some(Letter::Write),
+            's' => Some(Letter::Check),
             _ => None,
         }
     }
 
-    /// What is asked of the text under this letter, its fields drawn.
+    /// Whether the request is one of this letter.
+    pub fn asks(self, request: &Request) -> bool {
+        Letter::from_char(char::from(request.letter())) == Some(self)
+    }
+
+    /// What is asked of the text under this letter, its fields and rows drawn.
     pub fn request(self, random: &mut Random, text: &[u8]) -> Request {
         match self {
             Letter::Take => {
@@ -40,6 +50,15 @@ impl Letter {
                 Request::Read { nodes, numbers }
             }
             Letter::Infer => Request::Infer,
+            Letter::Write => {
+                let rows = store_cases::rows(random, text);
+                let output = store_cases::room(random, text, &rows);
+                Request::Write { output, rows }
+            }
+            Letter::Check => {
+                let rows = store_cases::rows(random, text);
+                Request::Check { rows }
+            }
         }
     }
 }
@@ -53,7 +72,7 @@ pub struct Case {
 impl Case {
     pub fn record(&self) -> Record<'_> {
         Record {
-            request: self.request,
+            request: self.request.clone(),
             text: &self.text,
         }
     }

@@ -9,24 +9,44 @@ use std::io;
 use std::thread;
 
 /// How many records of a letter agreed, by what the answer rests on.
-#[derive(Clone, Copy, Debug, Default, PartialEq, Eq)]
+#[derive(Clone, Debug, Default, PartialEq, Eq)]
 pub struct Count {
     pub by_rust: usize,
     pub at_model_place: usize,
     pub at_model_limit: usize,
+    pub of_stores: usize,
+    /// Of stores: how many records had this number and, where there is one, this letter.
+    pub outcomes: BTreeMap<String, usize>,
 }
 
 impl Count {
     pub fn agreed(&self) -> usize {
-        self.by_rust + self.at_model_place + self.at_model_limit
+        self.by_rust + self.at_model_place + self.at_model_limit + self.of_stores
     }
 
-    fn add(&mut self, basis: Basis) {
-        *match basis {
+    fn add(&mut self, expected: &Expected, letter: u8) {
+        *match expected.basis {
             Basis::Rust => &mut self.by_rust,
             Basis::Place => &mut self.at_model_place,
             Basis::Limit => &mut self.at_model_limit,
+            Basis::Stores => &mut self.of_stores,
         } += 1;
+        if expected.basis == Basis::Stores {
+            let outcome = outcome(&expected.line, letter);
+            *self.outcomes.entry(outcome).or_default() += 1;
+        }
+    }
+}
+
+/// A refusal's number; else `accepted` or, of the strict check, the letter of a rule.
+fn outcome(line: &str, letter: u8) -> String {
+    let mut fields = line.split(' ');
+    let number = fields.next().unwrap_or_default();
+    let second = fields.next().and_then(|field| field.parse::<u8>().ok());
+    match (number, second) {
+        ("0", Some(rule)) if letter == b's' && rule > 0 => char::from(rule).to_string(),
+        ("0", _) => "accepted".to_string(),
+        _ => number.to_string(),
     }
 }
 
@@ -65,8 +85,9 @@ fn compare(
         if expected.line.as_bytes() != *line {
             return Some(Fault::Different(index));
         }
-        let count = tally.entry(cases[index].request.letter()).or_default();
-        count.add(expected.basis);
+        let letter = cases[index].request.letter();
+        let count = tally.entry(letter).or_default();
+        count.add(expected, letter);
     }
     if !replies.status.success() || lines.len() != cases.len() {
         let message = format!(

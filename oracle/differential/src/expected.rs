@@ -4,9 +4,10 @@
 use crate::any_bytes;
 use crate::cases::Case;
 use crate::model::{self, Limits, Refusal, Store, NO_NODE_ROW, NO_NUMBER_ROW, TOO_DEEP};
+use crate::stores::{self, ILL_FORMED, MAX_DEPTH, NO_ROOM};
 use driver::inferred::{self, Inference};
 use driver::reader::{self, Reading, Tree};
-use driver::record::Request;
+use driver::record::{Request, Rows};
 use driver::tokens::{self, Demand, Seen, Span};
 
 // More refusals of document 01 that the Rust doesn't have.
@@ -16,8 +17,6 @@ const NON_ASCII: u32 = 24;
 
 /// The reader and infer_type refuse longer texts.
 const MAX_READ_BYTES: usize = 65_535;
-/// So many non-empty collections may lie on a path.
-const MAX_DEPTH: usize = 32;
 
 /// What an expected line rests on.
 #[derive(Clone, Copy, Debug, PartialEq, Eq)]
@@ -28,6 +27,8 @@ pub enum Basis {
     Place,
     /// The model: it ends at a limit that the Rust doesn't have.
     Limit,
+    /// The model of stores, of which the Rust knows nothing; it reads the canonical text.
+    Stores,
 }
 
 #[derive(Clone, Debug, PartialEq, Eq)]
@@ -42,6 +43,11 @@ impl Expected {
         Expected { line, basis }
     }
 
+    fn of_store(line: String) -> Self {
+        let basis = Basis::Stores;
+        Expected { line, basis }
+    }
+
     fn refusal(number: u32, place: usize, basis: Basis) -> Self {
         let line = format!("{number} {place} 0 0 ;  ;  ; 0");
         Expected { line, basis }
@@ -50,14 +56,18 @@ impl Expected {
 
 /// The answer to a case. Nesting has no limit in the Rust: the stack must be large.
 pub fn expected(case: &Case) -> Expected {
-    match case.request {
+    match &case.request {
         Request::Take { place, count } => {
-            Expected::by_rust(token_line(&case.text, place, count, Demand::Take))
+            Expected::by_rust(token_line(&case.text, *place, *count, Demand::Take))
         }
         Request::LookAndTake { place, count } => {
-            Expected::by_rust(token_line(&case.text, place, count, Demand::LookAndTake))
+            Expected::by_rust(token_line(&case.text, *place, *count, Demand::LookAndTake))
         }
-        Request::Read { nodes, numbers } => reading(&case.text, nodes, numbers),
+        Request::Read { nodes, numbers } => reading(&case.text, *nodes, *numbers),
+        Request::Write { output, rows } => {
+            Expected::of_store(writing_line(&case.text, rows, *output))
+        }
+        Request::Check { rows } => Expected::of_store(checking_line(&case.text, rows)),
         Request::Infer => Expected::by_rust(inference_line(&case.text)),
     }
 }
@@ -173,6 +183,44 @@ fn accepted_line(text: &str, tree: &Tree) -> String {
     )
 }
 
+fn writing_line(text: &[u8], rows: &Rows, room: u32) -> String {
+    let Ok(root) = stores::tree(text, rows) else {
+        return format!("{ILL_FORMED} 0 0 ;  ; 0");
+    };
+    let written = stores::canonical(&root);
+    assert!(
+        reads_as(&written, text, rows),
+        "the Rust reads another store"
+    );
+    if written.len() > room as usize {
+        return format!("{NO_ROOM} 0 0 ;  ; 0");
+    }
+    let hex: String = written.iter().map(|byte| format!("{byte:02x}")).collect();
+    format!("0 0 {} ; {hex} ; 0", written.len())
+}
+
+/// Whether the Rust reads a canonical text to the nodes and the number texts of rows.
+fn reads_as(written: &[u8], text: &[u8], rows: &Rows) -> bool {
+    let Ok(written) = std::str::from_utf8(written) else {
+        return false;
+    };
+    let Reading::Accepted(tree) = reader::read(written) else {
+        return false;
+    };
+    let texts = tree.numbers.iter().map(|number| number.text.as_bytes());
+    let spans = rows.numbers.chunks_exact(2);
+    let spans = spans.map(|span| &text[span[0] as usize..][..span[1] as usize]);
+    tree.nodes.concat() == rows.nodes && texts.eq(spans)
+}
+
+fn checking_line(text: &[u8], rows: &Rows) -> String {
+    let Ok(root) = stores::tree(text, rows) else {
+        return format!("{ILL_FORMED} 0 0");
+    };
+    let (letter, row) = stores::first_fault(&root, None).unwrap_or((0, 0));
+    format!("0 {letter} {row}")
+}
+
 fn inference_line(bytes: &[u8]) -> String {
     let text = match readable(bytes) {
         Ok(text) => text,
@@ -243,6 +291,32 @@ mod tests {
             b"POINT\xff",
         );
         assert_eq!(ill_formed.line, "2 5 0 0 ;  ;  ; 0");
+    }
+
+    #[test]
+    fn stores() {
+        let rows = || Rows {
+            nodes: vec![2, 0, 1],
+            numbers: vec![0, 1, 2, 1],
+        };
+        let line = |request| answer(request, b"1 2").line;
+        let write = |output| {
+            line(Request::Write {
+                output,
+                rows: rows(),
+            })
+        };
+        assert_eq!(write(15), "0 0 15 ; 4c494e45535452494e472831203229 ; 0");
+        assert_eq!(write(14), "23 0 0 ;  ; 0");
+        assert_eq!(line(Request::Check { rows: rows() }), "0 65 0");
+        let mut cut = rows();
+        cut.numbers.pop();
+        assert_eq!(line(Request::Check { rows: cut.clone() }), "22 0 0");
+        let write = Request::Write {
+            output: 0,
+            rows: cut,
+        };
+        assert_eq!(line(write), "22 0 0 ;  ; 0");
     }
 
     #[test]

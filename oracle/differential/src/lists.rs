@@ -1,14 +1,16 @@
 //! Fixed lists of records with the expected answers, for the gate to replay: the
 //! Rust's own tests, the edges of document 01, then generated texts; first under the
-//! letters of tokens, then under `r` and `i`. The order of the sections is fixed and
-//! the seed decides the rest.
+//! letters of tokens, then under `r` and `i`, then stores under `w` and `s`, and records
+//! that have no answer. The order of the sections is fixed and the seed decides the rest.
 
 use crate::cases::{self, Case, Letter};
 use crate::expected::expected;
 use crate::random::Random;
+use crate::store_lists;
+use crate::stores;
 use crate::texts::Texts;
-use driver::answer::{self, NOT_COMPARABLE, NOT_UTF8, STACK_BYTES};
-use driver::record::Request;
+use driver::answer::{self, BAD_RECORD, NOT_COMPARABLE, NOT_UTF8, STACK_BYTES};
+use driver::record::{Request, Rows};
 use driver::tokens;
 use std::collections::BTreeMap;
 use std::path::Path;
@@ -85,7 +87,7 @@ const EDGES: &[&str] = &[
 ];
 
 /// Number texts, good and bad, a blank between.
-const NUMBER_TEXTS: &str = "\
+pub const NUMBER_TEXTS: &str = "\
     0 -0 +0 00 007 1 -1 +1 ++1 +-1 -+1 --1 +++1 ++-1 1. .1 -.1 +.1 1.0 1.2.3 . - + ++ +- \
     +. -. .. 1.. ..1 1e5 1E5 1e+5 1e-5 1e 1e+ 1e- 1e++5 1e5.0 1e5e5 e5 .e5 1.e5 .1e5 \
     -.1e-5 +.e 1ee5 1e400 1e-400 -1e400 0e10000 1e00000000000000000005 inf +inf -inf \
@@ -115,8 +117,8 @@ const TIGHT_ROOMS: [(u32, u32, &str); 14] = [
 ];
 
 /// What begins a collection; open as often as may be, and once more.
-const COLLECTION: &str = "GEOMETRYCOLLECTION(";
-const MOST_OPEN: usize = 32;
+pub const COLLECTION: &str = "GEOMETRYCOLLECTION(";
+pub const MOST_OPEN: usize = 32;
 
 /// The longest text that is read.
 const LONGEST_READ: usize = 65_535;
@@ -137,9 +139,14 @@ const INFERRED: &[&str] = &[
     "POLYGON M(京)",
 ];
 
-/// How many generated records of `r` and of `i` there are, spread over their answers.
+/// How many generated records of these letters there are, spread over their answers.
 const READINGS: usize = 3_000;
 const INFERENCES: usize = 500;
+const WRITINGS: usize = 400;
+const CHECKS: usize = 400;
+
+/// Generated stores are smaller.
+const MOST_PLACES: usize = 48;
 
 /// Writes `stdin` and `stdout` into the directory, with so many generated answers of
 /// tokens.
@@ -152,11 +159,24 @@ pub fn write(seed: u64, generated: usize, directory: &Path) -> io::Result<()> {
     cases.extend(edges_inferred());
     cases.extend(spread(seed, Letter::Read, READINGS));
     cases.extend(spread(seed, Letter::Infer, INFERENCES));
-    let lines = answers(&cases)?;
+    cases.extend(store_lists::cases());
+    cases.extend(spread(seed, Letter::Write, WRITINGS));
+    cases.extend(spread(seed, Letter::Check, CHECKS));
+    let mut stream = cases::encode(&cases);
+    let mut lines = answers(&cases)?;
+    let bad = store_lists::bad_records();
+    for record in &bad {
+        stream.extend((record.len() as u32).to_le_bytes());
+        stream.extend(record);
+        lines += &format!("{BAD_RECORD}\n");
+    }
+    // The last record is cut.
+    stream.extend([9, 0, 0, 0, b's']);
+    lines += &format!("{BAD_RECORD}\n");
     fs::create_dir_all(directory)?;
-    fs::write(directory.join("stdin"), cases::encode(&cases))?;
+    fs::write(directory.join("stdin"), stream)?;
     fs::write(directory.join("stdout"), lines)?;
-    println!("{} records with their answers", cases.len());
+    println!("{} records with their answers", cases.len() + bad.len() + 1);
     Ok(())
 }
 
@@ -291,12 +311,13 @@ fn edges_inferred() -> Vec<Case> {
     cases.collect()
 }
 
-fn point_and_blanks(length: usize) -> String {
+pub fn point_and_blanks(length: usize) -> String {
     const POINT: &str = "POINT(1 2)";
     POINT.to_string() + &" ".repeat(length - POINT.len())
 }
 
-/// A refusal's number, or 0 and the kind that was read.
+/// A refusal's number with, of 22, the clause that is broken; or 0 with the kind that was
+/// read or written or, of the strict check, a rule's letter.
 type Class = (u32, u32);
 
 /// Generated texts under one letter, spread evenly over the classes of answers and, in
@@ -312,7 +333,9 @@ fn spread(seed: u64, letter: Letter, count: usize) -> Vec<Case> {
         if text.len() <= LONGEST {
             let request = letter.request(&mut random, &text);
             let case = Case { request, text };
-            by_class.entry(class(&case)).or_default().push(case);
+            if is_small(&case.request) {
+                by_class.entry(class(&case)).or_default().push(case);
+            }
         }
     }
     let share = count / by_class.len();
@@ -323,17 +346,39 @@ fn spread(seed: u64, letter: Letter, count: usize) -> Vec<Case> {
     cases.collect()
 }
 
+fn is_small(request: &Request) -> bool {
+    match request {
+        Request::Write { rows, .. } | Request::Check { rows } => {
+            rows.nodes.len() + rows.numbers.len() <= MOST_PLACES
+        }
+        _ => true,
+    }
+}
+
 fn class(case: &Case) -> Class {
     let line = expected(case).line;
     let numbers: Vec<u32> = line
         .split_whitespace()
         .filter_map(|field| field.parse().ok())
         .collect();
-    match (numbers[0], case.request) {
+    match (numbers[0], &case.request) {
         // `0 0 NODES NUMBERS ; KIND ..`
         (0, Request::Read { .. }) => (0, numbers[4]),
+        (0, Request::Write { rows, .. }) => (0, rows.nodes[0]),
+        // `0 LETTER ROW`
+        (0, Request::Check { .. }) => (0, numbers[1]),
         // `0 0 KIND DIMENSION`
         (0, _) => (0, numbers[2]),
+        (22, Request::Write { rows, .. } | Request::Check { rows }) => {
+            (22, clause(&case.text, rows))
+        }
         (refusal, _) => (refusal, 0),
+    }
+}
+
+fn clause(text: &[u8], rows: &Rows) -> u32 {
+    match stores::tree(text, rows) {
+        Ok(_) => unreachable!("the store is ill formed"),
+        Err(clause) => clause as u32,
     }
 }

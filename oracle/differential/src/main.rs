@@ -1,6 +1,7 @@
-//! Holds the replay program beside the Rust: makes texts from a seed, runs both
-//! on the same records and stops at the first difference, made as small as it gets.
-//! With `--list` it writes a fixed list of records and the Rust's answers instead.
+//! Holds the replay program beside the Rust, and beside the model of stores where the
+//! Rust has none: makes texts from a seed, runs both on the same records and stops at
+//! the first difference, made as small as it gets. With `--list` it writes a fixed list
+//! of records and their answers instead.
 
 mod any_bytes;
 mod cases;
@@ -15,6 +16,10 @@ mod random;
 mod replay;
 mod report;
 mod shrink;
+mod smaller_stores;
+mod store_cases;
+mod store_lists;
+mod stores;
 mod texts;
 
 use cases::{Case, Letter};
@@ -27,16 +32,19 @@ use std::process::ExitCode;
 use texts::Texts;
 
 /// The letters that the replay program knows so far.
-const KNOWN_LETTERS: &str = "tpri";
+const KNOWN_LETTERS: &str = "tpriws";
 /// One run of the replay program answers the records of so many texts.
 const TEXTS_PER_RUN: usize = 20_000;
 
-const USAGE: &str = "usage: differential [--letters LETTERS] [--replay PROGRAM] SEED COUNT
+const USAGE: &str =
+    "usage: differential [--letters LETTERS] --replay PROGRAM [--word WORD].. SEED COUNT
        differential --list SEED COUNT DIRECTORY";
 
 struct Options {
     letters: Vec<Letter>,
     replay: Option<PathBuf>,
+    /// What the replay program is given as arguments.
+    words: Vec<String>,
     is_list: bool,
     rest: Vec<String>,
 }
@@ -44,12 +52,14 @@ struct Options {
 fn options(mut arguments: impl Iterator<Item = String>) -> Option<Options> {
     let mut letters = KNOWN_LETTERS.to_string();
     let mut replay = None;
+    let mut words = Vec::new();
     let mut is_list = false;
     let mut rest = Vec::new();
     while let Some(argument) = arguments.next() {
         match argument.as_str() {
             "--letters" => letters = arguments.next()?,
             "--replay" => replay = Some(PathBuf::from(arguments.next()?)),
+            "--word" => words.push(arguments.next()?),
             "--list" => is_list = true,
             _ => rest.push(argument),
         }
@@ -58,6 +68,7 @@ fn options(mut arguments: impl Iterator<Item = String>) -> Option<Options> {
     Some(Options {
         letters: letters?,
         replay,
+        words,
         is_list,
         rest,
     })
@@ -86,8 +97,11 @@ fn run(options: Options) -> Option<io::Result<bool>> {
     match (options.is_list, &options.rest[2..]) {
         (true, [directory]) => Some(lists::write(seed, count, directory.as_ref()).map(|()| true)),
         (false, []) => {
-            let program = options.replay?;
-            Some(compare(&Replay { program }, &options.letters, seed, count))
+            let replay = Replay {
+                program: options.replay?,
+                words: options.words,
+            };
+            Some(compare(&replay, &options.letters, seed, count))
         }
         _ => None,
     }
@@ -99,18 +113,29 @@ fn compare(replay: &Replay, letters: &[Letter], seed: u64, count: usize) -> io::
     // Places and rooms are drawn apart, so that the texts are the same for any letters.
     let mut random = Random::new(!seed);
     let mut tally = Tally::new();
+    let mut cases = largest(letters);
     let mut left = count;
-    while left > 0 {
-        let now = left.min(TEXTS_PER_RUN);
-        let cases = next_cases(&mut texts, &mut random, letters, now);
+    loop {
         if let Some(fault) = check(replay, &cases, &mut tally)? {
             explain(replay, &cases, fault)?;
             return Ok(false);
         }
+        if left == 0 {
+            break;
+        }
+        let now = left.min(TEXTS_PER_RUN);
+        cases = next_cases(&mut texts, &mut random, letters, now);
         left -= now;
     }
     report::print_tally(seed, count, &tally);
     Ok(true)
+}
+
+/// The largest records of these letters.
+fn largest(letters: &[Letter]) -> Vec<Case> {
+    let is_asked = |case: &Case| letters.iter().any(|letter| letter.asks(&case.request));
+    let cases = store_lists::largest().into_iter();
+    cases.filter(is_asked).collect()
 }
 
 fn next_cases(

@@ -7,6 +7,8 @@ use std::thread;
 
 pub struct Replay {
     pub program: PathBuf,
+    /// Its arguments.
+    pub words: Vec<String>,
 }
 
 pub struct Replies {
@@ -19,6 +21,7 @@ impl Replay {
     /// so that the program never waits for its output to be read.
     pub fn answer(&self, stream: &[u8]) -> io::Result<Replies> {
         let mut child = Command::new(&self.program)
+            .args(&self.words)
             .stdin(Stdio::piped())
             .stdout(Stdio::piped())
             .spawn()?;

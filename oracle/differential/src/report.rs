@@ -5,18 +5,24 @@ use crate::check::Tally;
 use crate::expected::expected;
 use crate::replay::Replay;
 use driver::answer::STACK_BYTES;
-use driver::record::Request;
+use driver::record::{Request, Rows};
 use std::{io, thread};
 
 /// A longer text is printed up to here.
 const PRINTED_BYTES: usize = 2_000;
+/// And so is a longer slice.
+const PRINTED_PLACES: usize = 300;
 
 pub fn print_tally(seed: u64, texts: usize, tally: &Tally) {
     println!("seed {seed}, {texts} texts, no difference");
     for (letter, count) in tally {
         let letter = char::from(*letter);
         println!("{letter}: {} records agreed", count.agreed());
-        if count.by_rust < count.agreed() {
+        if count.of_stores > 0 {
+            let outcomes = count.outcomes.iter();
+            let outcomes = outcomes.map(|(outcome, records)| format!("{outcome}: {records}"));
+            println!("   {}", outcomes.collect::<Vec<_>>().join(", "));
+        } else if count.by_rust < count.agreed() {
             println!("   {} with the Rust alone", count.by_rust);
             println!(
                 "   {} with its refusal and the model's place",
@@ -54,8 +60,25 @@ fn described(request: &Request) -> String {
         Request::Read { nodes, numbers } => {
             format!("{letter}, node slice {nodes}, number slice {numbers}")
         }
+        Request::Write { output, rows } => {
+            format!("{letter}, output {output}, {}", described_rows(rows))
+        }
+        Request::Check { rows } => format!("{letter}, {}", described_rows(rows)),
         Request::Infer => letter.to_string(),
     }
+}
+
+fn described_rows(rows: &Rows) -> String {
+    let places = |slice: &[u32]| {
+        let printed = slice.iter().take(PRINTED_PLACES).map(u32::to_string);
+        format!(
+            "{} ({})",
+            slice.len(),
+            printed.collect::<Vec<_>>().join(" ")
+        )
+    };
+    let (nodes, numbers) = (places(&rows.nodes), places(&rows.numbers));
+    format!("node slice {nodes}, number slice {numbers}")
 }
 
 fn expected_line(case: &Case) -> io::Result<String> {

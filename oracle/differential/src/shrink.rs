@@ -3,7 +3,8 @@
 use crate::cases::Case;
 use crate::check::{check, Fault, Tally};
 use crate::replay::Replay;
-use driver::record::Request;
+use crate::smaller_stores::smaller;
+use driver::record::{Request, Rows};
 use std::io;
 
 /// Candidates are tried together in one run of the replay program, up to so many
@@ -64,7 +65,7 @@ fn without_parts(case: &Case, step: usize) -> Vec<Case> {
     let shorter = starts.map(|start| {
         let end = (start + step).min(case.text.len());
         let text = [&case.text[..start], &case.text[end..]].concat();
-        let request = moved_back(case.request, start, end);
+        let request = moved_back(&case.request, start, end);
         Case { request, text }
     });
     shorter
@@ -72,46 +73,83 @@ fn without_parts(case: &Case, step: usize) -> Vec<Case> {
         .collect()
 }
 
-/// The request after the bytes from `start` to `end` were taken out before its place.
-fn moved_back(request: Request, start: usize, end: usize) -> Request {
+/// The request after the bytes from `start` to `end` were taken out before its place, or
+/// before the starts of its spans.
+fn moved_back(request: &Request, start: usize, end: usize) -> Request {
     let moved = |place: u32| match place as usize >= end {
         true => place - (end - start) as u32,
         false => place,
     };
+    let moved_rows = |rows: &Rows| {
+        let mut rows = rows.clone();
+        for place in rows.numbers.iter_mut().step_by(2) {
+            *place = moved(*place);
+        }
+        rows
+    };
     match request {
         Request::Take { place, count } => Request::Take {
-            place: moved(place),
-            count,
+            place: moved(*place),
+            count: *count,
         },
         Request::LookAndTake { place, count } => Request::LookAndTake {
-            place: moved(place),
-            count,
+            place: moved(*place),
+            count: *count,
         },
-        other => other,
+        Request::Write { output, rows } => Request::Write {
+            output: *output,
+            rows: moved_rows(rows),
+        },
+        Request::Check { rows } => Request::Check {
+            rows: moved_rows(rows),
+        },
+        other => other.clone(),
     }
 }
 
-/// The same text, with fewer tokens demanded or from the start.
+/// The same text, with fewer tokens demanded or from the start, a smaller store or a
+/// smaller output.
 fn with_simpler_fields(case: &Case) -> Vec<Case> {
-    let (place, count) = match case.request {
-        Request::Take { place, count } | Request::LookAndTake { place, count } => (place, count),
-        _ => return Vec::new(),
+    let requests = match &case.request {
+        Request::Take { place, count } => simpler_demands(*place, *count)
+            .map(|(place, count)| Request::Take { place, count })
+            .collect(),
+        Request::LookAndTake { place, count } => simpler_demands(*place, *count)
+            .map(|(place, count)| Request::LookAndTake { place, count })
+            .collect(),
+        Request::Write { output, rows } => simpler_writings(&case.text, *output, rows),
+        Request::Check { rows } => {
+            let stores = smaller(&case.text, rows).into_iter();
+            stores.map(|rows| Request::Check { rows }).collect()
+        }
+        Request::Read { .. } | Request::Infer => Vec::new(),
     };
+    let with_text = requests.into_iter().map(|request| Case {
+        request,
+        text: case.text.clone(),
+    });
+    with_text.collect()
+}
+
+fn simpler_demands(place: u32, count: u32) -> impl Iterator<Item = (u32, u32)> {
     let simpler = [
         (0, count),
         (place, count / 2),
         (place, count.saturating_sub(1)),
     ];
-    let request = |(place, count)| match case.request {
-        Request::Take { .. } => Request::Take { place, count },
-        _ => Request::LookAndTake { place, count },
-    };
     simpler
         .into_iter()
-        .filter(|fields| *fields != (place, count))
-        .map(|fields| Case {
-            request: request(fields),
-            text: case.text.clone(),
-        })
-        .collect()
+        .filter(move |fields| *fields != (place, count))
+}
+
+fn simpler_writings(text: &[u8], output: u32, rows: &Rows) -> Vec<Request> {
+    let outputs = [0, output / 2, output.saturating_sub(1)].into_iter();
+    let outputs = outputs.filter(|smaller| *smaller < output);
+    let with_output = outputs.map(|output| Request::Write {
+        output,
+        rows: rows.clone(),
+    });
+    let stores = smaller(text, rows).into_iter();
+    let with_store = stores.map(|rows| Request::Write { output, rows });
+    with_output.chain(with_store).collect()
 }

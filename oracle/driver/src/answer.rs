@@ -24,6 +24,8 @@ pub fn line(record: &Record) -> String {
         Request::LookAndTake { place, count } => {
             token_line(text, place, count, Demand::LookAndTake)
         }
+        // The Rust has neither stores nor a strict check.
+        Request::Write { .. } | Request::Check { .. } => BAD_RECORD.to_string(),
         // The Rust's trees have no limit, so the slices' lengths mean nothing to it.
         Request::Read { .. } => reader::line(&reader::read(text)),
         Request::Infer => inferred::line(&inferred::infer(text)),

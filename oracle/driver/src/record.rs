@@ -1,12 +1,21 @@
 //! The records of the replay program: a u32 with the count of the bytes that
-//! follow, then a letter, the letter's fields as u32 each, and the text. Every
-//! number is little-endian.
+//! follow, then a letter, the letter's fields and rows as u32 each, and the text.
+//! Every number is little-endian.
 
 pub const MAX_TEXT: usize = 131_072;
 pub const MAX_SLICE: u32 = 98_304;
+pub const MAX_OUTPUT: u32 = 262_144;
 
-/// What is asked of a text: the letter with its fields.
-#[derive(Clone, Copy, Debug, PartialEq, Eq)]
+/// The rows of a store, place by place: kind, dimension and parts of each node, start
+/// and length of each number.
+#[derive(Clone, Debug, Default, PartialEq, Eq)]
+pub struct Rows {
+    pub nodes: Vec<u32>,
+    pub numbers: Vec<u32>,
+}
+
+/// What is asked of a text: the letter with its fields and rows.
+#[derive(Clone, Debug, PartialEq, Eq)]
 pub enum Request {
     /// `t`: so many tokens taken, from a place on.
     Take { place: u32, count: u32 },
@@ -14,6 +23,10 @@ pub enum Request {
     LookAndTake { place: u32, count: u32 },
     /// `r`: the reader, lent two slices of these lengths.
     Read { nodes: u32, numbers: u32 },
+    /// `w`: the writer, lent these rows and an output of this length.
+    Write { output: u32, rows: Rows },
+    /// `s`: the strict check, lent these rows.
+    Check { rows: Rows },
     /// `i`: infer_type.
     Infer,
 }
@@ -30,18 +43,30 @@ impl Request {
             Request::Take { .. } => b't',
             Request::LookAndTake { .. } => b'p',
             Request::Read { .. } => b'r',
+            Request::Write { .. } => b'w',
+            Request::Check { .. } => b's',
             Request::Infer => b'i',
         }
     }
 
+    /// The fields, and the rows behind them.
     fn fields(&self) -> Vec<u32> {
-        match *self {
+        match self {
             Request::Take { place, count } | Request::LookAndTake { place, count } => {
-                vec![place, count]
+                vec![*place, *count]
             }
-            Request::Read { nodes, numbers } => vec![nodes, numbers],
+            Request::Read { nodes, numbers } => vec![*nodes, *numbers],
+            Request::Write { output, rows } => [vec![*output], rows.fields()].concat(),
+            Request::Check { rows } => rows.fields(),
             Request::Infer => vec![],
         }
+    }
+}
+
+impl Rows {
+    fn fields(&self) -> Vec<u32> {
+        let lengths = [&self.nodes, &self.numbers].map(|slice| slice.len() as u32);
+        [&lengths, &self.nodes[..], &self.numbers[..]].concat()
     }
 }
 
@@ -86,8 +111,8 @@ impl<'text> Record<'text> {
     }
 
     fn is_within_limits(&self) -> bool {
-        let slices_fit = match self.request {
-            Request::Read { nodes, numbers } => nodes <= MAX_SLICE && numbers <= MAX_SLICE,
+        let slices_fit = match &self.request {
+            Request::Read { nodes, numbers } => *nodes <= MAX_SLICE && *numbers <= MAX_SLICE,
             _ => true,
         };
         slices_fit && self.text.len() <= MAX_TEXT
@@ -130,6 +155,21 @@ mod tests {
         let bodies: Vec<_> = split(&stream).collect();
         assert_eq!(bodies.len(), 1);
         assert_eq!(Record::decode(bodies[0].unwrap()), Some(record));
+    }
+
+    #[test]
+    fn rows_stand_behind_their_lengths() {
+        let rows = Rows {
+            nodes: vec![1, 0, 1],
+            numbers: vec![6, 258],
+        };
+        let request = Request::Write { output: 9, rows };
+        let mut stream = Vec::new();
+        let text = b"x";
+        Record { request, text }.encode(&mut stream);
+        let places: [u32; 8] = [9, 3, 2, 1, 0, 1, 6, 258];
+        let places = places.map(u32::to_le_bytes).concat();
+        assert_eq!(stream, [&[34, 0, 0, 0, b'w'][..], &places, b"x"].concat());
     }
 
     #[test]

@@ -5,10 +5,10 @@ use Rattle.replay.proofs.run.Statement.{statement}
 use Rattle.replay.proofs.run.Tie as tie
 
 abbrev Inv-loop : tie.InvT-loop
-Inv-loop input₀ nodes₀ numbers₀ out₀ s₀ turns₀ input nodes numbers out s turns = Unit {0}
+Inv-loop input₀ out₀ s₀ turns₀ input out s turns = Unit {0}
 
 abbrev μ-loop : tie.MeasureT-loop
-μ-loop input₀ nodes₀ numbers₀ out₀ s₀ turns₀ input nodes numbers out s turns = turns
+μ-loop input₀ out₀ s₀ turns₀ input out s turns = turns
 
 loop-holds : tie.Need-loop-holds Inv-loop μ-loop
 loop-holds c = search needs

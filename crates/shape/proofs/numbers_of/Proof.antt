@@ -4,7 +4,8 @@ use native.Mathlib.Omega.{arith}
 use borrow.Author.Needs.{needs}
 use borrow.Author.Tests.{le-leb, lt-leb}
 use Rattle.shape.specs.Nodes.{numbersOf}
-use Rattle.shape.proofs.Frames.{width-le, four-fit}
+use Rattle.names.proofs.Widths.{width-few}
+use Rattle.shape.proofs.Frames.{four-fit}
 use Rattle.shape.proofs.numbers_of.Statement.{statement}
 use Rattle.shape.proofs.numbers_of.Tie as tie
 
@@ -15,7 +16,7 @@ width-of-requires : tie.Need-width-of-requires
 width-of-requires c κs = search needs
 
 mul-result : tie.Need-mul-result
-mul-result c = record { fits = four-fit _ _ (omega (arith, c .before .struct-known2 .given .1 .1 .1 .1 .0)) (rw (c .width-of .ensures) (width-le _)) }
+mul-result c = record { fits = four-fit _ _ (omega (arith, c .before .struct-known2 .given .1 .1 .1 .1 .0)) (rw (c .width-of .ensures) (width-few _)) }
 
 returns : tie.Need-returns
 unfolding numbersOf

@@ -5,7 +5,7 @@ use borrow.Author.Needs.{needs}
 use borrow.Author.Tests.{eq-eqb, ne-eqb, le-leb, lt-leb}
 use Rattle.pen.proofs.Puts.{emits, emits-then, emits-as}
 use Rattle.to_wkt.specs.Canonical.{putBody}
-use Rattle.to_wkt.proofs.Canonical.{width-some, numbers-fit}
+use Rattle.to_wkt.proofs.Canonical.{width-wide, numbers-fit}
 use Rattle.to_wkt.proofs.put_body.Statement.{statement}
 use Rattle.to_wkt.proofs.put_body.Tie as tie
 
@@ -41,7 +41,7 @@ cast-put-coordinates c = search needs
 put-coordinates-requires : tie.Need-put-coordinates-requires
 put-coordinates-requires c κs =
     let s = c .before .before .before .before .before .before .before .before .before .before .before .before .before .before in
-    record { wide = width-some _ _ (c .before .before .width-of .ensures); some = omega (arith, c .before .before .before .before .before .before .before .before .before .if1 .left); fits = omega (arith, numbers-fit (s .args .numbers .now) (s .args .v) (c .before .before .width-of .result) (c .before .before .width-of .ensures) (s .pre) (c .before .before .before .if2 .left)) }
+    record { wide = width-wide _ _ (c .before .before .width-of .ensures); some = omega (arith, c .before .before .before .before .before .before .before .before .before .if1 .left); fits = omega (arith, numbers-fit (s .args .numbers .now) (s .args .v) (c .before .before .width-of .result) (c .before .before .width-of .ensures) (s .pre) (c .before .before .before .if2 .left)) }
 
 put-byte-requires-2 : tie.Need-put-byte-requires-2
 put-byte-requires-2 c κs = search needs

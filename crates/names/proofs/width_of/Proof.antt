@@ -1,10 +1,10 @@
--- `wkt::plain_coord::width_of` meets its contract.
+-- `names::width_of` meets its contract.
 -- Assumes nothing.
 use borrow.Author.Needs.{needs}
-use Rattle.wkt.proofs.plain_coord.width_of.Statement.{statement}
-use Rattle.wkt.proofs.plain_coord.width_of.Tie as tie
+use Rattle.names.proofs.width_of.Statement.{statement}
+use Rattle.names.proofs.width_of.Tie as tie
 use mathlib.Core.Path.{sym, _∙_}
-use Rattle.wkt.proofs.PlainNumbers.{width-is}
+use Rattle.names.proofs.Widths.{width-is}
 
 has-z-requires : tie.Need-has-z-requires
 has-z-requires c κs = search needs

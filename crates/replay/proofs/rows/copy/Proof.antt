@@ -1,20 +1,26 @@
--- `fill` is safe and ends: the places that are left get fewer.
+-- `copy` is safe and ends: the places that are left get fewer.
 -- Assumes nothing.
 use borrow.Author.Needs.{needs}
 use Prim.Native.Nat.{_-_}
 use mathlib.Core.Path.{_≡_}
 use lib.ListN.{length}
-use Rattle.replay.proofs.reading.fill.Statement.{statement}
-use Rattle.replay.proofs.reading.fill.Tie as tie
+use Rattle.replay.proofs.rows.copy.Statement.{statement}
+use Rattle.replay.proofs.rows.copy.Tie as tie
 
 abbrev Inv-loop : tie.InvT-loop
-Inv-loop slice₀ i₀ slice i = length slice ≡ length slice₀
+Inv-loop bytes slice₀ i₀ slice i = length slice ≡ length slice₀
 
 abbrev μ-loop : tie.MeasureT-loop
-μ-loop slice₀ i₀ slice i = length slice₀ - i
+μ-loop bytes slice₀ i₀ slice i = length slice₀ - i
 
 loop-holds : tie.Need-loop-holds Inv-loop μ-loop
 loop-holds c = search needs
+
+mul-u32-at : tie.Need-mul-u32-at Inv-loop μ-loop
+mul-u32-at c = search needs
+
+u32-at-requires : tie.Need-u32-at-requires Inv-loop μ-loop
+u32-at-requires c κs = search needs
 
 mul-slice : tie.Need-mul-slice Inv-loop μ-loop
 mul-slice c = search needs
@@ -37,13 +43,15 @@ same-length c = search needs
 returns : tie.Need-returns Inv-loop μ-loop
 returns c = search needs
 
-pub fill-spec : {M : Type 1} → statement M
-fill-spec =
+pub copy-spec : {M : Type 1} → statement M
+copy-spec =
     tie.close
     (tie.spec
     Inv-loop
     μ-loop
     loop-holds
+    mul-u32-at
+    u32-at-requires
     mul-slice
     slice-write-slice
     add-i
