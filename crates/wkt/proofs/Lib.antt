@@ -6,5 +6,6 @@ mod PlainNumbers
 mod Lists
 mod Parts
 mod Heads
+mod Coords
 mod Geometries
 mod Whole

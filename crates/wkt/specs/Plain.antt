@@ -7,9 +7,10 @@ use Rattle.tokenizer.specs.declared.Found.{Found}
 use Rattle.tokenizer.specs.declared.Token.the-variants.{Number}
 use Rattle.tokenizer.specs.Tokens.{read, afterBlank, readAt}
 use Rattle.store.specs.Rows.{spansIn}
-use Rattle.wkt.specs.Means.{MetNumber}
+use Rattle.wkt.specs.Means.{MetNumber, MetCoord, CommaAt}
 use Rattle.wkt.specs.declared.State.{State}
 use Rattle.wkt.specs.declared.Answer.the-variants.{Done}
+use Rattle.wkt.specs.declared.coord.Run.{Run}
 
 abbrev pub state : ℕ → ℕ → ℕ → State
 state c n m = record { at = c; nodes = n; numbers = m }
@@ -39,3 +40,18 @@ pub data Numbers (text : List ℕ) (i used : ℕ) (ms : List ℕ) : ℕ → ℕ 
 pub record MetPlains (text : List ℕ) (width i used : ℕ) (ms : List ℕ) (r : ℕ) (ms′ : List ℕ) : Type 0 where
   pub kept : Kept text used ms ms′
   pub numbers : i < r → Numbers text i used ms width (used + width) r ms′
+
+-- k coordinates, a comma behind each, from s up to q
+pub data Coords (text : List ℕ) (d : ℕ) (s : State) (ms : List ℕ) : ℕ → State → List ℕ → Type 0 where
+  coord-none : Coords text d s ms zero s ms
+  coord-more :
+      {k : ℕ} {q p q′ : State} {ms₁ ms₂ : List ℕ} → Coords text d s ms k q ms₁ → length ms₂ ≡ length ms₁ →
+      MetCoord text d q ms₁ (Done p) ms₂ → CommaAt text p q′ → Coords text d s ms (suc k) q′ ms₂
+
+-- a run's coordinates were read up to `last`, and then the next one
+pub record MetRun (text : List ℕ) (d : ℕ) (s : State) (ms : List ℕ) (r : Run) (ms′ : List ℕ) : Type 0 where
+  pub last : State
+  pub held : List ℕ
+  pub before : Coords text d s ms (r .parts) last held
+  pub same : length ms′ ≡ length held
+  pub next : MetCoord text d last held (r .got) ms′

@@ -9,6 +9,7 @@ use crate::State;
 use crate::plain_coord;
 use crate::seen;
 use crate::seen::NUMBER;
+use crate::seen::stands;
 use names::has_m;
 use names::has_z;
 use names::width_of;
@@ -16,6 +17,7 @@ use tokenizer::Refusal;
 ghost use Rattle.store.specs.Rows.{numberRoom};
 ghost use Rattle.grammar.specs.Grammar.{thenNumber, ifAsked};
 ghost use Rattle.wkt.specs.Means.{Room, FineAny, MetNumber, MetOn, MetCoord};
+ghost use Rattle.wkt.specs.Plain.{MetRun};
 
 // A number and its row, or the refusal `missing`.
 fn number(text: &[u8], numbers: &mut [u32], missing: u32, s: State) -> Answer
@@ -105,4 +107,50 @@ pub fn coord(text: &[u8], numbers: &mut [u32], dimension: u32, s: State) -> Answ
         });
     }
     by_tokens(text, numbers, dimension, s)
+}
+
+// So many coordinates with a comma behind each, and what reading the next one came to.
+pub struct Run {
+    pub parts: u32,
+    pub got: Answer,
+}
+
+// Coordinates as long as they are plain with a comma right behind them, and the one after those.
+pub fn coords(text: &[u8], numbers: &mut [u32], dimension: u32, s: State) -> Run
+    requires { ⌜ Room (now text) (s .nodes) (numberRoom (now numbers)) s ⌝ }
+    ensures { λ r. ⌜ MetRun (now (text .entry)) dimension s (now (numbers .entry)) r (now (numbers .exit)) ⌝ }
+{
+    let width = width_of(dimension);
+    let nodes = s.nodes;
+    let mut at = s.at;
+    let mut used = s.numbers;
+    let mut parts: u32 = 0;
+    loop {
+        let end = plain_coord::coord(text, numbers, width, at, used);
+        if end <= at {
+            let got = by_tokens(
+                text,
+                numbers,
+                dimension,
+                State {
+                    at,
+                    nodes,
+                    numbers: used,
+                },
+            );
+            return Run { parts, got };
+        }
+        used += width;
+        if stands(text, end, b',') {
+            at = end + 1;
+            parts += 1;
+        } else {
+            let got = Answer::Done(State {
+                at: end,
+                nodes,
+                numbers: used,
+            });
+            return Run { parts, got };
+        }
+    }
 }

@@ -6,7 +6,7 @@ use crate::NO_NODE_ROW;
 use crate::State;
 use crate::after_part;
 use crate::closing;
-use crate::coord::coord;
+use crate::coord::coords;
 use crate::node;
 use crate::opener;
 use names::KIND_LINESTRING;
@@ -29,7 +29,9 @@ fn body(
     let mut here = s;
     let mut parts: u32 = 0;
     loop {
-        let got = coord(text, numbers, dimension, here);
+        let read = coords(text, numbers, dimension, here);
+        parts += read.parts;
+        let got = read.got;
         match got {
             Answer::Done(q) => {
                 parts += 1;
