@@ -101,7 +101,9 @@ extern "C" {
 /*
  * Reads the geometry that a text begins with into rows of both slices. The
  * room is node_places / 3 node rows and number_places / 2 number rows. Of
- * either, half as many rows as the text has bytes are always enough.
+ * either, half as many rows as the text has bytes should be enough, as a row
+ * takes two bytes of text or more. That isn't proved: a text that needed more
+ * would be refused 3 or 4.
  *
  * answer: number, place, count of node rows, count of number rows.
  * Every place of both slices after the used rows is 0, and after a refusal

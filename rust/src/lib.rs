@@ -137,7 +137,8 @@ impl std::error::Error for Fault {}
 /// Reads the geometry that a text begins with. What follows it is unread.
 pub fn read<T: AsRef<[u8]> + ?Sized>(text: &T) -> Result<Tree<'_>, Refusal> {
     let text = text.as_ref();
-    // Half as many rows as a text has bytes are enough, and a text over the limit is refused without any.
+    // Half as many rows as a text has bytes should be enough, as a row takes two bytes of text or more. That isn't
+    // proved: a text that needed more would be refused 3 or 4. A text over the limit is refused without any.
     let rows = if text.len() <= TEXT_LIMIT {
         text.len() / 2
     } else {

@@ -13,13 +13,14 @@ use Rattle.scan.specs.Bytes.{nul, parenOpen, parenClose, comma, isBlank, isNumb
 use Rattle.scan.specs.Runs.{firstNot}
 use Rattle.scan.proofs.Runs.{not-past, scan-on}
 use Rattle.tokenizer.specs.declared.Found.{Found}
-use Rattle.tokenizer.specs.declared.Token.the-variants.{Comma, Number, ParenClose, ParenOpen, Word}
+use Rattle.tokenizer.specs.declared.Token.{Token}
+use Rattle.tokenizer.specs.declared.Token.the-variants.{Comma, ParenOpen, Word}
 use Rattle.tokenizer.specs.declared.Read.{Read}
 use Rattle.tokenizer.specs.Tokens.{read, endOf, afterBlank, textStart, numberOr, numberAt, wordAt, startAt, tokenAt, readAt}
-use Rattle.tokenizer.specs.Stream.{hd, tl, cons, tokIn, toks}
+use Rattle.tokenizer.specs.Stream.{hd, tl, tkIn, tokIn, toks}
 use Rattle.tokenizer.proofs.Stream.{either, toks-step}
 use Rattle.number.specs.Lexeme.{isLexeme, upToStop}
-use Rattle.grammar.specs.Tokens.{sortComma, sortOpen, sortOf, placeOf}
+use Rattle.grammar.specs.Tokens.{sortOpen, sortClose, sortComma, tkSort, sortOf, placeOf}
 use Rattle.wkt.specs.Seen.{standsAt}
 use Rattle.wkt.proofs.Tokens.{first-token, next-tokens}
 
@@ -44,13 +45,10 @@ module _ (text : List ℕ) where
   number-place p true start end at = refl
   number-place p false start end at = refl
 
-  number-no-comma : (p : ℕ) (good : Bool) (start end at : ℕ) → sort (read (numberOr good p start end) at) ≡ sortComma → ⊥
-  number-no-comma p true start end at z = omega (arith, z)
-  number-no-comma p false start end at z = omega (arith, z)
-
-  number-no-open : (p : ℕ) (good : Bool) (start end at : ℕ) → sort (read (numberOr good p start end) at) ≡ sortOpen → ⊥
-  number-no-open p true start end at z = omega (arith, z)
-  number-no-open p false start end at z = omega (arith, z)
+  -- no number has the sort of a mark
+  number-no : (k p : ℕ) → sortOpen ≤ k → k ≤ sortComma → (good : Bool) (start end at : ℕ) → sort (read (numberOr good p start end) at) ≡ k → ⊥
+  number-no k p l h true start end at z = omega (arith, z)
+  number-no k p l h false start end at z = omega (arith, z)
 
   start-place : (p b : ℕ) → place (startAt text p b) ≡ p
   unfolding startAt
@@ -62,25 +60,16 @@ module _ (text : List ℕ) where
       either (eqb b comma) Q _ _ (λ e. refl) (λ e4.
       either (isNumberlike b) Q _ _ (λ e. number-by Q p (number-place p)) (λ e5. word-by Q p (λ len at. refl))))))
 
-  start-no-comma : (p b : ℕ) → eqb b comma ≡ false → sort (startAt text p b) ≡ sortComma → ⊥
+  -- what starts with another byte than a mark's has another sort
+  start-no : (k p b : ℕ) → sortOpen ≤ k → k ≤ sortComma → (sortOpen ≡ k → eqb b parenOpen ≡ false) → (sortClose ≡ k → eqb b parenClose ≡ false) → (sortComma ≡ k → eqb b comma ≡ false) → sort (startAt text p b) ≡ k → ⊥
   unfolding startAt
-  start-no-comma p b n =
-      let Q : Read → Type 0 = λ r. sort r ≡ sortComma → ⊥ in
+  start-no k p b l h o c m =
+      let Q : Read → Type 0 = λ r. sort r ≡ k → ⊥ in
       either (eqb b nul) Q _ _ (λ e z. omega (arith, z)) (λ e1.
-      either (eqb b parenOpen) Q _ _ (λ e z. omega (arith, z)) (λ e2.
-      either (eqb b parenClose) Q _ _ (λ e z. omega (arith, z)) (λ e3.
-      either (eqb b comma) Q _ _ (λ e. absurd (false≢true (sym n ∙ e))) (λ e4.
-      either (isNumberlike b) Q _ _ (λ e. number-by Q p (number-no-comma p)) (λ e5. word-by Q p (λ len at z. omega (arith, z)))))))
-
-  start-no-open : (p b : ℕ) → eqb b parenOpen ≡ false → sort (startAt text p b) ≡ sortOpen → ⊥
-  unfolding startAt
-  start-no-open p b n =
-      let Q : Read → Type 0 = λ r. sort r ≡ sortOpen → ⊥ in
-      either (eqb b nul) Q _ _ (λ e z. omega (arith, z)) (λ e1.
-      either (eqb b parenOpen) Q _ _ (λ e. absurd (false≢true (sym n ∙ e))) (λ e2.
-      either (eqb b parenClose) Q _ _ (λ e z. omega (arith, z)) (λ e3.
-      either (eqb b comma) Q _ _ (λ e z. omega (arith, z)) (λ e4.
-      either (isNumberlike b) Q _ _ (λ e. number-by Q p (number-no-open p)) (λ e5. word-by Q p (λ len at z. omega (arith, z)))))))
+      either (eqb b parenOpen) Q _ _ (λ e z. false≢true (sym (o z) ∙ e)) (λ e2.
+      either (eqb b parenClose) Q _ _ (λ e z. false≢true (sym (c z) ∙ e)) (λ e3.
+      either (eqb b comma) Q _ _ (λ e z. false≢true (sym (m z) ∙ e)) (λ e4.
+      either (isNumberlike b) Q _ _ (λ e. number-by Q p (number-no k p l h)) (λ e5. word-by Q p (λ len at z. omega (arith, z)))))))
 
   module _ (i p : ℕ) (h : p ≡ firstNot isBlank text i) where
     -- blanks in front change nothing
@@ -113,39 +102,46 @@ module _ (text : List ℕ) where
     stood : (b : ℕ) → standsAt text p b ≡ true → getD text p 0 ≡ b
     stood b y = eqb-true (getD text p 0) b (and-eq-true-iff (ltb p (length text)) _ .0 y .1)
 
-    comma-read : standsAt text p comma ≡ true → readAt text i ≡ read (Found.Is p Comma) (p + 1)
-    unfolding startAt
-    comma-read y = inside (within comma y) ∙ rw (stood comma y)
+    -- a mark: its byte starts the token t, whose sort is k
+    module _ (b k : ℕ) (t : Token) (starts : startAt text p b ≡ read (Found.Is p t) (p + 1)) (sorted : tkSort (tkIn text t) ≡ k) (y : standsAt text p b ≡ true) where
+      mark-read : readAt text i ≡ read (Found.Is p t) (p + 1)
+      mark-read = inside (within b y) ∙ ap (startAt text p) (stood b y) ∙ starts
 
-    open-read : standsAt text p parenOpen ≡ true → readAt text i ≡ read (Found.Is p ParenOpen) (p + 1)
-    unfolding startAt
-    open-read y = inside (within parenOpen y) ∙ rw (stood parenOpen y)
+      mark-there : sortOf (hd (toks text i)) ≡ k
+      mark-there = rw (first-token text i, mark-read) sorted
+
+      mark-past : tl (toks text i) ≡ toks text (p + 1)
+      mark-past = next-tokens text i ∙ rw mark-read
 
     pub comma-there : standsAt text p comma ≡ true → sortOf (hd (toks text i)) ≡ sortComma
-    comma-there y = rw (first-token text i, comma-read y)
+    unfolding startAt
+    comma-there y = mark-there comma sortComma Comma refl refl y
 
     pub comma-past : standsAt text p comma ≡ true → tl (toks text i) ≡ toks text (p + 1)
-    comma-past y = next-tokens text i ∙ rw (comma-read y)
+    unfolding startAt
+    comma-past y = mark-past comma sortComma Comma refl refl y
 
     pub open-there : standsAt text p parenOpen ≡ true → sortOf (hd (toks text i)) ≡ sortOpen
-    open-there y = rw (first-token text i, open-read y)
+    unfolding startAt
+    open-there y = mark-there parenOpen sortOpen ParenOpen refl refl y
 
     pub open-past : standsAt text p parenOpen ≡ true → tl (toks text i) ≡ toks text (p + 1)
-    open-past y = next-tokens text i ∙ rw (open-read y)
+    unfolding startAt
+    open-past y = mark-past parenOpen sortOpen ParenOpen refl refl y
 
     other-byte : (b : ℕ) → standsAt text p b ≡ false → p < length text → eqb (getD text p 0) b ≡ false
     other-byte b y l = rw (lt-ltb p (length text) l) at y
 
-    pub no-comma : standsAt text p comma ≡ false → sortOf (hd (toks text i)) ≡ sortComma → ⊥
-    no-comma y = go (decLt p (length text))
+    -- where the mark's byte does not stand, no token of its sort does
+    no-mark : (k : ℕ) → sortOpen ≤ k → k ≤ sortComma → (p < length text → sort (startAt text p (getD text p 0)) ≡ k → ⊥) → sortOf (hd (toks text i)) ≡ k → ⊥
+    no-mark k l h n = go (decLt p (length text))
       where
-        go : Dec (p < length text) → sortOf (hd (toks text i)) ≡ sortComma → ⊥
-        go (yes l) = rw (first-token text i, inside l) (start-no-comma p (getD text p 0) (other-byte comma y l))
-        go (no l) = rw (first-token text i, outside (omega arith)) (λ z. omega (arith, z))
+        go : Dec (p < length text) → sortOf (hd (toks text i)) ≡ k → ⊥
+        go (yes x) = rw (first-token text i, inside x) (n x)
+        go (no x) = rw (first-token text i, outside (omega arith)) (λ z. omega (arith, z))
+
+    pub no-comma : standsAt text p comma ≡ false → sortOf (hd (toks text i)) ≡ sortComma → ⊥
+    no-comma y = no-mark sortComma (omega arith) (omega arith) (λ x. start-no sortComma p (getD text p 0) (omega arith) (omega arith) (λ z. absurd (omega (arith, z))) (λ z. absurd (omega (arith, z))) (λ z. other-byte comma y x))
 
     pub no-open : standsAt text p parenOpen ≡ false → sortOf (hd (toks text i)) ≡ sortOpen → ⊥
-    no-open y = go (decLt p (length text))
-      where
-        go : Dec (p < length text) → sortOf (hd (toks text i)) ≡ sortOpen → ⊥
-        go (yes l) = rw (first-token text i, inside l) (start-no-open p (getD text p 0) (other-byte parenOpen y l))
-        go (no l) = rw (first-token text i, outside (omega arith)) (λ z. omega (arith, z))
+    no-open y = no-mark sortOpen (omega arith) (omega arith) (λ x. start-no sortOpen p (getD text p 0) (omega arith) (omega arith) (λ z. other-byte parenOpen y x) (λ z. absurd (omega (arith, z))) (λ z. absurd (omega (arith, z))))

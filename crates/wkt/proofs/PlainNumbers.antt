@@ -26,7 +26,7 @@ use Rattle.store.proofs.Rows.{putSpan-length, spans-before}
 use Rattle.grammar.specs.Tokens.{sortNumber}
 use Rattle.wkt.specs.Seen.{Takes}
 use Rattle.wkt.specs.Means.{Room, usedBy, MetNumber, MetCoord}
-use Rattle.wkt.specs.Plain.{state, PlainEnd, Kept, MetPlain, Numbers, none, more, MetPlains}
+use Rattle.wkt.specs.Plain.{state, PlainEnd, Unmoved, MetPlain, Numbers, none, more, MetPlains}
 use Rattle.wkt.specs.declared.State.{State}
 use Rattle.wkt.specs.declared.Answer.{Answer}
 use Rattle.wkt.specs.declared.Answer.the-variants.{Done, Refused, Stopped}
@@ -104,7 +104,7 @@ taken {text} {i} {r} x h = record {
   rest = next-tokens text i ∙ rw (x .number h);
 }
 
-pub kept-all : {text : List ℕ} {used : ℕ} {ms : List ℕ} → Kept text used ms ms
+pub kept-all : {text : List ℕ} {used : ℕ} {ms : List ℕ} → Unmoved text used ms ms
 kept-all = record { same = refl; spans = λ m h. refl }
 
 module _ {text : List ℕ} {i used : ℕ} {ms : List ℕ} where
@@ -118,7 +118,7 @@ module _ {text : List ℕ} {i used : ℕ} {ms : List ℕ} where
   }
 
 -- several, one by one
-pub kept-on : {text : List ℕ} {used : ℕ} (k : ℕ) {ms ms₁ ms₂ : List ℕ} → Kept text used ms ms₁ → Kept text (used + k) ms₁ ms₂ → Kept text used ms ms₂
+pub kept-on : {text : List ℕ} {used : ℕ} (k : ℕ) {ms ms₁ ms₂ : List ℕ} → Unmoved text used ms ms₁ → Unmoved text (used + k) ms₁ ms₂ → Unmoved text used ms ms₂
 kept-on k a b = record { same = b .same ∙ a .same; spans = λ m h. b .spans m (omega arith) ∙ a .spans m h }
 
 pub no-numbers : {text : List ℕ} {i used : ℕ} {ms : List ℕ} → Numbers text i used ms 0 (used + 0) i ms
@@ -148,7 +148,7 @@ module _ {text : List ℕ} {i used : ℕ} {ms : List ℕ} (d n : ℕ) where
   by-width false true z m k e c = three-m z m (rw e at c)
   by-width false false z m k e c = two z m (rw e at c)
 
-pub all-read : {text : List ℕ} {width k i used r : ℕ} {ms ms′ : List ℕ} → k ≤ width → width ≤ k → Kept text used ms ms′ → Numbers text i used ms k (used + k) r ms′ → MetPlains text width i used ms r ms′
+pub all-read : {text : List ℕ} {width k i used r : ℕ} {ms ms′ : List ℕ} → k ≤ width → width ≤ k → Unmoved text used ms ms′ → Numbers text i used ms k (used + k) r ms′ → MetPlains text width i used ms r ms′
 all-read {width = width} {k = k} l h a c = let e : width ≡ k = omega arith in rw e (record { kept = a; numbers = λ z. c })
 
 -- as many as the dimension asks for are a coordinate
@@ -157,8 +157,8 @@ unfolding width
 plain-coord {text} {d} {k} {u} {s} e c = by-width d (s .nodes) (hasZ d) (hasM d) refl refl k e c
 
 -- what was kept is read token by token
-pub token-coord : {text : List ℕ} {d : ℕ} {s : State} {ms ms₁ ms′ : List ℕ} {r : Answer} → Kept text (s .numbers) ms ms₁ → MetCoord text d s ms₁ r ms′ → MetCoord text d s ms r ms′
+pub token-coord : {text : List ℕ} {d : ℕ} {s : State} {ms ms₁ ms′ : List ℕ} {r : Answer} → Unmoved text (s .numbers) ms ms₁ → MetCoord text d s ms₁ r ms′ → MetCoord text d s ms r ms′
 token-coord {text} {d} {s} k m = record { met = λ N M R g h. rw (← k .spans (s .numbers) (omega arith)) (m .met N M R (rw (k .same) g) h) }
 
-pub kept-room : {text : List ℕ} {s : State} {ms ms₁ : List ℕ} → Kept text (s .numbers) ms ms₁ → Room text (s .nodes) (numberRoom ms) s → Room text (s .nodes) (numberRoom ms₁) s
+pub kept-room : {text : List ℕ} {s : State} {ms ms₁ : List ℕ} → Unmoved text (s .numbers) ms ms₁ → Room text (s .nodes) (numberRoom ms) s → Room text (s .nodes) (numberRoom ms₁) s
 kept-room k v = record { short = v .short; nodes = v .nodes; numbers = rw (k .same) (v .numbers) }

@@ -21,13 +21,13 @@ pub record PlainEnd (text : List ℕ) (i r : ℕ) : Type 0 where
   pub number : i < r → readAt text i ≡ read (Found.Is i (Number i (r - i))) (afterBlank text r)
 
 -- the rows before `used` are as they were
-pub record Kept (text : List ℕ) (used : ℕ) (ms ms′ : List ℕ) : Type 0 where
+pub record Unmoved (text : List ℕ) (used : ℕ) (ms ms′ : List ℕ) : Type 0 where
   pub same : length ms′ ≡ length ms
   pub spans : (m : ℕ) → m ≤ used → spansIn text ms′ m ≡ spansIn text ms m
 
 -- where r lies behind i, a number was read from i up to r into the row `used`, whatever is refused for want of one
 pub record MetPlain (text : List ℕ) (i used : ℕ) (ms : List ℕ) (r : ℕ) (ms′ : List ℕ) : Type 0 where
-  pub kept : Kept text used ms ms′
+  pub kept : Unmoved text used ms ms′
   pub number : i < r → (e n : ℕ) → MetNumber text e (state i n used) ms (Done (state r n (used + 1))) ms′
 
 -- k numbers one after the other, from i up to r, into the rows from `used` up to u
@@ -38,7 +38,7 @@ pub data Numbers (text : List ℕ) (i used : ℕ) (ms : List ℕ) : ℕ → ℕ 
       ((e n : ℕ) → MetNumber text e (state c n u) ms₁ (Done (state r n (suc u))) ms₂) → Numbers text i used ms (suc k) (suc u) r ms₂
 
 pub record MetPlains (text : List ℕ) (width i used : ℕ) (ms : List ℕ) (r : ℕ) (ms′ : List ℕ) : Type 0 where
-  pub kept : Kept text used ms ms′
+  pub kept : Unmoved text used ms ms′
   pub numbers : i < r → Numbers text i used ms width (used + width) r ms′
 
 -- k coordinates, a comma behind each, from s up to q

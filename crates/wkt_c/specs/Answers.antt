@@ -36,18 +36,18 @@ abbrev pub readingIn : List ℕ → List ℕ → List ℕ → Got
 readingIn text ns ms = reading (nodeRoom ns) (numberRoom ms) text
 
 -- the reader: both slices are left as the contract of `wkt::read` says, and the answer is the one that it fixes
-pub record Reads (text ns ms ns′ ms′ answer : List ℕ) : Type 0 where
+pub record ReadsInto (text ns ms ns′ ms′ answer : List ℕ) : Type 0 where
   pub rows : Leaves (readingIn text ns ms) ns ms (answerOf (readingIn text ns ms)) ns′ ms′
   pub places : answer ≡ readPlaces (answerOf (readingIn text ns ms))
 
 -- the writer, in the same way
-pub record Writes (text nodes numbers out out′ answer : List ℕ) : Type 0 where
+pub record WritesInto (text nodes numbers out out′ answer : List ℕ) : Type 0 where
   pub bytes : write.Written text nodes numbers (length out) (write.answerOf (canonical text nodes numbers) (length out)) out′
   pub places : answer ≡ writePlaces (write.answerOf (canonical text nodes numbers) (length out))
 
 -- two outcomes that the contracts allow coincide
-pub reads-one : {text ns ms ns′ ns″ ms′ ms″ answer answer′ : List ℕ} → Reads text ns ms ns′ ms′ answer → Reads text ns ms ns″ ms″ answer′ → (ns′ ≡ ns″) × (ms′ ≡ ms″) × (answer ≡ answer′)
+pub reads-one : {text ns ms ns′ ns″ ms′ ms″ answer answer′ : List ℕ} → ReadsInto text ns ms ns′ ms′ answer → ReadsInto text ns ms ns″ ms″ answer′ → (ns′ ≡ ns″) × (ms′ ≡ ms″) × (answer ≡ answer′)
 reads-one x y = (x .rows .nodes ∙ sym (y .rows .nodes), x .rows .numbers ∙ sym (y .rows .numbers), x .places ∙ sym (y .places))
 
-pub writes-one : {text nodes numbers out out′ out″ answer answer′ : List ℕ} → Writes text nodes numbers out out′ answer → Writes text nodes numbers out out″ answer′ → (out′ ≡ out″) × (answer ≡ answer′)
+pub writes-one : {text nodes numbers out out′ out″ answer answer′ : List ℕ} → WritesInto text nodes numbers out out′ answer → WritesInto text nodes numbers out out″ answer′ → (out′ ≡ out″) × (answer ≡ answer′)
 writes-one x y = (x .bytes .bytes ∙ sym (y .bytes .bytes), x .places ∙ sym (y .places))

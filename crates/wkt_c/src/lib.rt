@@ -1,7 +1,7 @@
 // The entries for C, and for every language that calls as C does. A slice goes as a pointer and a length, and an
 // answer goes into four places that the caller lends, so that no struct is passed.
 ghost use mathlib.Core.Path.{_≡_};
-ghost use Rattle.wkt_c.specs.Answers.{Reads, Writes, strictPlaces, inferPlaces};
+ghost use Rattle.wkt_c.specs.Answers.{ReadsInto, WritesInto, strictPlaces, inferPlaces};
 ghost use Rattle.strict.specs.Strict.{strictOf};
 ghost use Rattle.infer_type.specs.Infer.{inferType};
 
@@ -16,7 +16,7 @@ pub extern "C" fn doorhollow_read(
     numbers: &mut [u32],
     answer: &mut [u64; ANSWER_PLACES],
 )
-    ensures { λ _. ⌜ Reads (now (text .entry)) (now (nodes .entry)) (now (numbers .entry)) (now (nodes .exit)) (now (numbers .exit)) (now (answer .exit)) ⌝ }
+    ensures { λ _. ⌜ ReadsInto (now (text .entry)) (now (nodes .entry)) (now (numbers .entry)) (now (nodes .exit)) (now (numbers .exit)) (now (answer .exit)) ⌝ }
 {
     let a = wkt::read(text, nodes, numbers);
     *answer = [
@@ -36,7 +36,7 @@ pub extern "C" fn doorhollow_write(
     out: &mut [u8],
     answer: &mut [u64; ANSWER_PLACES],
 )
-    ensures { λ _. ⌜ Writes (now (text .entry)) (now (nodes .entry)) (now (numbers .entry)) (now (out .entry)) (now (out .exit)) (now (answer .exit)) ⌝ }
+    ensures { λ _. ⌜ WritesInto (now (text .entry)) (now (nodes .entry)) (now (numbers .entry)) (now (out .entry)) (now (out .exit)) (now (answer .exit)) ⌝ }
 {
     let a = to_wkt::write(text, nodes, numbers, out);
     *answer = [a.number as u64, a.place as u64, a.length as u64, 0];

@@ -6,11 +6,11 @@ use Rattle.wkt.proofs.plain_coord.coord.Tie as tie
 use mathlib.Core.Path.{_≡_, _∙_}
 use Prim.Native.Nat.{_+_, _-_, _≤_}
 use native.Mathlib.Omega.{arith}
-use Rattle.wkt.specs.Plain.{Kept, Numbers}
+use Rattle.wkt.specs.Plain.{Unmoved, Numbers}
 use Rattle.wkt.proofs.PlainNumbers.{kept-all, kept-on, no-numbers, one-more, all-read}
 
 abbrev Inv-loop : tie.InvT-loop
-Inv-loop text numbers₀ width at used here₀ k₀ numbers here k = (k ≤ width) × Kept text used numbers₀ numbers × Numbers text at used numbers₀ k (used + k) here numbers
+Inv-loop text numbers₀ width at used here₀ k₀ numbers here k = (k ≤ width) × Unmoved text used numbers₀ numbers × Numbers text at used numbers₀ k (used + k) here numbers
 
 abbrev μ-loop : tie.MeasureT-loop
 μ-loop text numbers₀ width at used here₀ k₀ numbers here k = width - k
