@@ -11,15 +11,16 @@ use native.Mathlib.Decide.{decLt}
 use lib.Dec.{eqb, leb}
 use borrow.Author.Tests.{eq-eqb, ne-eqb, eqb-true, le-leb, lt-leb, leb-true}
 use Rattle.scan.specs.Bytes.{space, parenOpen, parenClose, comma}
-use Rattle.names.specs.Kinds.{kindPoint, kindLineString, kindGeometryCollection, dimXY, dimXYZM, width}
+use Rattle.kinds.specs.Kinds.{kindPoint, kindLineString, kindGeometryCollection, dimXY, dimXYZM, width}
 use Rattle.names.specs.Strings.{empty}
 use Rattle.store.specs.Rows.{Row, row}
-use Rattle.grammar.specs.Tree.{Coord, each, separated, putCoord, putParts}
-use Rattle.grammar.specs.Tree as tree
-use Rattle.grammar.specs.Store.{ill, front, onFront, asA, times, findText, findCoord}
+use Rattle.tree.specs.Tree.{Coord}
+use Rattle.canonical_text.specs.Canonical.{each, separated, putCoord, putParts}
+use Rattle.canonical_text.specs.Canonical as tree
+use Rattle.tree.specs.TreeIn.{ill, front, onFront, asA, times, findText, findCoord}
 use Rattle.shape.specs.declared.Frame.{Frame}
 use Rattle.shape.specs.declared.Visit.{Visit}
-use Rattle.names.proofs.Widths.{width-some}
+use Rattle.kinds.proofs.Widths.{width-some}
 use Rattle.shape.specs.Nodes.{frame, visitOf, numbersOf, isLeaf, isFree, childKind, isGeometry, isChild, isAllowed, mayOpen, opened, fewer, after, ends, isOpen, follow, atLast, visitsBy, visits}
 use Rattle.shape.specs.Nodes as nodes
 use Rattle.shape.specs.Numbers.{textAt}

@@ -11,13 +11,15 @@ use lib.ListN.{length}
 use borrow.Author.Tests.{ne-eqb, eqb-true, le-leb, lt-leb, lt-ltb}
 use Rattle.limits.specs.Limits.{depthLimit}
 use Rattle.scan.specs.Bytes.{space, parenOpen, parenClose, comma}
-use Rattle.names.specs.Kinds.{kindPoint, kindLineString, kindPolygon, kindMultiPoint, kindMultiLineString, kindMultiPolygon, kindGeometryCollection, dimXYZM, width}
+use Rattle.kinds.specs.Kinds.{kindPoint, kindLineString, kindPolygon, kindMultiPoint, kindMultiLineString, kindMultiPolygon, kindGeometryCollection, dimXYZM, width}
 use Rattle.names.specs.Names.{names, endings}
 use Rattle.names.specs.Strings.{empty}
 use Rattle.store.specs.Rows.{Row, row}
-use Rattle.grammar.specs.Tree.{Coord, Node, pointN, lineN, polygonN, multipointN, multilineN, multipolygonN, collectionN, Tree, each, separated, putCoord, putParts, putNamed, putWith, putPoint, putLine, putPolygon, putNode, putNothing, put}
-use Rattle.grammar.specs.Tree as tree
-use Rattle.grammar.specs.Store.{Front, ill, front, Finder, onFront, asA, findNone, times, findText, findCoord, findRow, findLine, findPolygon, exactlyOne, findPoint, atMostOne, findParts, findNode, findTree, whole, textOfTree, canonical}
+use Rattle.tree.specs.Tree.{Coord, Node, pointN, lineN, polygonN, multipointN, multilineN, multipolygonN, collectionN, Tree}
+use Rattle.canonical_text.specs.Canonical.{each, separated, putCoord, putParts, putNamed, putWith, putPoint, putLine, putPolygon, putNode, putNothing, put}
+use Rattle.canonical_text.specs.Canonical as tree
+use Rattle.tree.specs.TreeIn.{Front, ill, front, Finder, onFront, asA, findNone, times, findText, findCoord, findRow, findLine, findPolygon, exactlyOne, findPoint, atMostOne, findParts, findNode, findTree, whole}
+use Rattle.canonical_text.specs.Canonical.{textOfTree, canonical}
 use Rattle.shape.specs.declared.Frame.{Frame}
 use Rattle.shape.specs.Nodes.{noKind, frame, above, isFree, childKind, isAllowed, mayOpen, opened, after, ends, isOpen}
 use Rattle.to_wkt.specs.Canonical.{stringOf, putName, putDimension, putHead, putClosings}

@@ -11,14 +11,15 @@ use lib.Dec.{leb}
 use lib.ListN.{length, take, drop}
 use borrow.Author.Tests.{le-leb, leb-true}
 use Rattle.limits.specs.Limits.{depthLimit}
-use Rattle.names.specs.Lists.{every}
+use Rattle.lists.specs.Lists.{every}
 use Rattle.number.specs.Lexeme.{isLexeme}
 use Rattle.store.specs.Rows.{Span, span, startAt, lengthAt, spanAt, numberRoom, firsts, spansIn}
-use Rattle.grammar.specs.Lists.{All}
-use Rattle.grammar.specs.Answers.{SpanIn}
-use Rattle.grammar.specs.Tree.{Tree}
-use Rattle.grammar.specs.Store.{spanText, spanTexts, treeIn, textOfTree}
-use Rattle.grammar.specs.Store as tree
+use Rattle.lists.specs.Lists.{All}
+use Rattle.tree.specs.TreeIn.{SpanIn}
+use Rattle.tree.specs.Tree.{Tree}
+use Rattle.tree.specs.TreeIn.{spanText, spanTexts, treeIn}
+use Rattle.canonical_text.specs.Canonical.{textOfTree}
+use Rattle.canonical_text.specs.Canonical as tree
 use Rattle.shape.specs.declared.Visit.{Visit}
 use Rattle.shape.specs.Nodes.{above, isSome, treeOf}
 use Rattle.shape.specs.Numbers.{textAt, isNumber, areNumbers}

@@ -4,7 +4,7 @@ use mathlib.Core.Bool.{true}
 use mathlib.Core.List.{List}
 use Prim.Native.Nat.{ℕ}
 use Rattle.store.specs.Rows.{Row, Span, nodeRoom, numberRoom, rowsIn, spansIn}
-use Rattle.grammar.specs.Store.{WellFormed, spanTexts}
+use Rattle.tree.specs.TreeIn.{WellFormed, spanTexts}
 use Rattle.shape.specs.Store.{areWhole}
 
 abbrev pub allRows : List ℕ → List Row

@@ -5,11 +5,12 @@ use mathlib.Core.List.{List, [], _∷_, _++_}
 use Prim.Native.Nat.{ℕ}
 use lib.Dec.{eqb, leb}
 use Rattle.scan.specs.Bytes.{parenOpen, comma}
-use Rattle.names.specs.Kinds.{kindLineString}
+use Rattle.kinds.specs.Kinds.{kindLineString}
 use Rattle.names.specs.Strings.{empty}
 use Rattle.store.specs.Rows.{Row, row}
-use Rattle.grammar.specs.Tree.{Coord, putCoord, putParts}
-use Rattle.grammar.specs.Store.{Front, ill, front, findCoord, times}
+use Rattle.tree.specs.Tree.{Coord}
+use Rattle.canonical_text.specs.Canonical.{putCoord, putParts}
+use Rattle.tree.specs.TreeIn.{Front, ill, front, findCoord, times}
 use Rattle.shape.specs.declared.Frame.{Frame}
 use Rattle.shape.specs.declared.Visit.{Visit}
 use Rattle.shape.specs.Nodes.{visitOf, isAllowed, mayOpen, opened, after, ends, isOpen}

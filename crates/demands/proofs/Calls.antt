@@ -6,8 +6,8 @@ use mathlib.Core.List.{List}
 use Prim.Native.Nat.{ℕ}
 use lib.ListN.{length}
 use Rattle.store.specs.Rows.{Row, Span, nodeRoom, numberRoom, flatRows, flatSpans}
-use Rattle.grammar.specs.Lists.{All}
-use Rattle.grammar.specs.Answers.{SpanIn}
+use Rattle.lists.specs.Lists.{All}
+use Rattle.tree.specs.TreeIn.{SpanIn}
 use Rattle.grammar.specs.Grammar.{out, Got, ok, refused, halt}
 use Rattle.grammar.specs.Whole.{reading}
 use Rattle.grammar.proofs.WellRead.{reading-well-formed}

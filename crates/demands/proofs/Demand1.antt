@@ -17,14 +17,15 @@ use Rattle.tokenizer.specs.declared.Found.{Found}
 use Rattle.tokenizer.specs.declared.Held.{Held}
 use Rattle.tokenizer.specs.declared.Refusal.{Refusal}
 use Rattle.tokenizer.specs.Tokens.{readAt, takeHeld, hold, step, cursorAt}
-use Rattle.tokenizer.proofs.Stream.{either, take-head, take-tail, look-head, look-same}
+use Rattle.tokenizer.proofs.Stream.{take-head, take-tail, look-head, look-same}
+use Rattle.lists.proofs.Cases.{either}
 use Rattle.store.specs.Rows.{Row, row, nodeRoom, numberRoom, rowsIn, zeros, padded}
 use Rattle.store.proofs.Rows.{rows-length}
 use Rattle.infer_type.specs.declared.Inferred.{Inferred}
 use Rattle.infer_type.specs.Infer as infer
 use Rattle.infer_type.specs.Answers.{Answer, is, long, ill, wide, noName, noSpace, neither}
 use Rattle.infer_type.proofs.Answers.{inferType-one, inferType-answers}
-use Rattle.grammar.specs.Lists.{All}
+use Rattle.lists.specs.Lists.{All}
 use Rattle.grammar.specs.Answers.{Passes, isRefusal, isHalt, Refused, Halted}
 use Rattle.grammar.specs.Demand.{run, answerIn}
 use Rattle.grammar.specs.Grammar.{out, Got, ok, refused, halt, refusal, root}

@@ -13,17 +13,17 @@ use Rattle.scan.specs.Text.{bytes}
 use Rattle.scan.specs.Front.{begins, afterOne, afterAll, isNil}
 use Rattle.words.specs.Words.{sameWord}
 use Rattle.number.specs.Lexeme.{isNamed, isDigits, isExponent, isDecimal, isUnsigned, isLexeme}
-use Rattle.names.specs.Lists.{every}
-use Rattle.names.specs.Kinds.{kindPoint, kindMultiPoint, dimXY, width}
+use Rattle.lists.specs.Lists.{every}
+use Rattle.kinds.specs.Kinds.{kindPoint, kindMultiPoint, dimXY, width}
 use Rattle.tokenizer.proofs.Bridge.{toks-lex}
 use Rattle.store.specs.Rows.{row, span, nodeRoom, numberRoom, cell, partsAt, startAt, firsts, rowsIn, spansIn, flatRows, flatSpans, zeros, padded}
-use Rattle.grammar.specs.Lists.{All}
+use Rattle.lists.specs.Lists.{All}
 use Rattle.grammar.specs.Answers.{Passes}
 use Rattle.grammar.specs.Edges.{Edge, reads, Holds, edges, every-edge}
 use Rattle.grammar.specs.Grammar.{Got, ok, out}
-use Rattle.grammar.specs.Store.{spanText, spanTexts}
+use Rattle.tree.specs.TreeIn.{spanText, spanTexts}
 use Rattle.grammar.specs.Whole.{reading}
-use Rattle.grammar.proofs.Found.{trees-own}
+use Rattle.tree.proofs.TreeIn.{trees-own}
 use Rattle.grammar.proofs.WellRead.{reading-well-formed}
 use Rattle.wkt.specs.declared.ReadAnswer.{ReadAnswer}
 use Rattle.wkt.specs.Whole.{Leaves, leaves-one, answerOf, rowsOf, spansOf, rootIn}

@@ -12,10 +12,10 @@ use borrow.Author.Tests.{le-leb}
 use Rattle.scan.specs.Text.{bytes}
 use Rattle.store.specs.Rows.{Row, nodeRoom, numberRoom, flatRows, padded}
 use Rattle.store.proofs.Rows.{rows-length, spans-length}
-use Rattle.grammar.specs.Lists.{All}
-use Rattle.grammar.specs.Tree.{Lexeme}
-use Rattle.grammar.specs.Store.{spanText, spanTexts}
-use Rattle.grammar.specs.Store as tree
+use Rattle.lists.specs.Lists.{All}
+use Rattle.tree.specs.Tree.{Lexeme}
+use Rattle.tree.specs.TreeIn.{spanText, spanTexts}
+use Rattle.canonical_text.specs.Canonical as tree
 use Rattle.grammar.proofs.Canon.{ReadBack, canonical-back, one-store, all-texts}
 use Rattle.wkt.specs.declared.ReadAnswer.{ReadAnswer}
 use Rattle.shape.specs.Nodes.{isSome, theVisits}

@@ -11,8 +11,8 @@ use lib.Seq.{take-all, take-append-seam}
 use borrow.Author.Tests.{eqb-true, eq-eqb}
 use Rattle.store.specs.Rows.{Row, row, Span, span, nodeWidth, numberWidth, nodeRoom, numberRoom, spanAt, firsts, spansIn, flatRows, flatSpans, padded}
 use Rattle.store.proofs.Rows.{rows-flat, spans-flat}
-use Rattle.grammar.specs.Lists.{All}
-use Rattle.grammar.specs.Answers.{SpanIn}
+use Rattle.lists.specs.Lists.{All}
+use Rattle.tree.specs.TreeIn.{SpanIn}
 use Rattle.shape.specs.Store.{areWhole}
 use Rattle.bridge.specs.Rows.{allRows, allSpans}
 use Rattle.bridge.proofs.Whole.{and-both, all-snoc}

@@ -7,12 +7,12 @@ use Prim.Native.Nat.{ℕ, _≤_}
 use lib.ListN.{length}
 use Rattle.limits.specs.Limits.{depthLimit}
 use Rattle.scan.specs.Text.{bytes}
-use Rattle.names.specs.Kinds.{kindMultiPoint, dimXY}
+use Rattle.kinds.specs.Kinds.{kindMultiPoint, dimXY}
 use Rattle.store.specs.Rows.{row, rowAt, partsAt, startAt, nodeRoom, numberRoom, flatRows, padded}
-use Rattle.grammar.specs.Lists.{All}
+use Rattle.lists.specs.Lists.{All}
 use Rattle.grammar.specs.Answers.{Passes}
 use Rattle.grammar.specs.Edges.{Edge, reads, edges}
-use Rattle.grammar.specs.Tree.{Tree, Shape, rows, texts}
+use Rattle.tree.specs.Tree.{Tree, Shape, rows, texts}
 use Rattle.wkt.specs.declared.ReadAnswer.{ReadAnswer}
 use Rattle.wkt.specs.Whole.{Leaves, rootIn}
 use Rattle.to_wkt.specs.declared.WriteAnswer.{WriteAnswer}

@@ -12,7 +12,7 @@ use Rattle.scan.specs.Front.{part}
 use Rattle.utf8.specs.Utf8.{isUtf8, firstIll}
 use Rattle.names.specs.declared.Name.{Name}
 use Rattle.names.specs.declared.Ending.{Ending}
-use Rattle.names.specs.Lists.{every}
+use Rattle.lists.specs.Lists.{every}
 use Rattle.names.specs.Names.{meaning, ending, isEmptyWord}
 use Rattle.tokenizer.specs.Tokens.{textStart, endOf}
 use Rattle.tokenizer.specs.Stream.{open-tk, close-tk, comma-tk, none-tk, bad-tk, word-tk, number-tk, Tok, tok, Str, hd, tl, toks}

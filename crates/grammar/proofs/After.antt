@@ -11,14 +11,14 @@ use borrow.Author.Tests.{eqb-true}
 use Rattle.scan.specs.Bytes.{parenClose, isAscii}
 use Rattle.names.specs.declared.Name.{Name}
 use Rattle.names.specs.declared.Ending.{Ending}
-use Rattle.names.specs.Kinds.{kindPoint, kindLineString, kindPolygon, kindMultiPoint, kindMultiLineString, kindMultiPolygon, kindGeometryCollection, dimXY}
-use Rattle.names.specs.Lists.{every}
+use Rattle.kinds.specs.Kinds.{kindPoint, kindLineString, kindPolygon, kindMultiPoint, kindMultiLineString, kindMultiPolygon, kindGeometryCollection, dimXY}
+use Rattle.lists.specs.Lists.{every}
 use Rattle.names.specs.Names.{meaning, ending, isEmptyWord}
 use Rattle.limits.specs.Limits.{textLimit, overLimit, depthLimit}
 use Rattle.utf8.specs.Utf8.{isUtf8, firstIll}
 use Rattle.tokenizer.specs.Stream.{Tok, tok, none-tk, close-tk, Str, hd, tl}
 use Rattle.tokenizer.specs.Lex.{lex}
-use Rattle.tokenizer.proofs.Stream.{either}
+use Rattle.lists.proofs.Cases.{either}
 use Rattle.grammar.specs.Demand.{P, ret, ask, look, bind, run, answerIn}
 use Rattle.grammar.specs.Tokens.{sortNone, sortOpen, sortClose, sortWord, sortOf, placeOf, textOf}
 use Rattle.grammar.specs.Grammar.{Out, out, Got, ok, refused, halt, Head, opens, empty, wrong, refusal, andThen, rowsUsed, closing, addNode, opened, isEmptyTok, opening, opener, headerEnding, header, byName, rootHead, lineIn, polygonIn, pointIn, multi, plain, geometryBy, collection, geometry, root}

@@ -10,16 +10,17 @@ use borrow.Author.Tests.{eq-eqb}
 use Rattle.scan.specs.Bytes.{space, parenClose, comma, isAscii}
 use Rattle.scan.specs.Front.{begins}
 use Rattle.scan.specs.Runs.{Many, none, more}
-use Rattle.names.specs.Kinds.{kindPoint, kindLineString, kindPolygon, kindMultiPoint, kindMultiLineString, kindMultiPolygon, kindGeometryCollection, dimXY}
-use Rattle.names.specs.Lists.{every}
+use Rattle.kinds.specs.Kinds.{kindPoint, kindLineString, kindPolygon, kindMultiPoint, kindMultiLineString, kindMultiPolygon, kindGeometryCollection, dimXY}
+use Rattle.lists.specs.Lists.{every}
 use Rattle.names.specs.Names.{names, endings}
 use Rattle.names.specs.Strings.{empty}
-use Rattle.names.proofs.Lists.{every-head, every-tail}
+use Rattle.lists.proofs.Lists.{every-head, every-tail}
 use Rattle.utf8.specs.Utf8.{firstIll, isUtf8}
 use Rattle.utf8.proofs.Whole.{ascii-whole}
-use Rattle.tokenizer.proofs.Stream.{either}
-use Rattle.grammar.specs.Lists.{All}
-use Rattle.grammar.specs.Tree.{pointN, lineN, polygonN, multipointN, multilineN, multipolygonN, collectionN, Tree, coordTexts, lineTexts, polygonTexts, nodeTexts, noTexts, texts, needsPlus, spell, putNumber, each, separated, putCoord, putParts, putNamed, stringOf, putDimension, putWith, putPoint, putLine, putPolygon, putNode, putNothing, put, Lexeme}
+use Rattle.lists.proofs.Cases.{either}
+use Rattle.lists.specs.Lists.{All}
+use Rattle.tree.specs.Tree.{pointN, lineN, polygonN, multipointN, multilineN, multipolygonN, collectionN, Tree, coordTexts, lineTexts, polygonTexts, nodeTexts, noTexts, texts, Lexeme}
+use Rattle.canonical_text.specs.Canonical.{needsPlus, spell, putNumber, each, separated, putCoord, putParts, putNamed, stringOf, putDimension, putWith, putPoint, putLine, putPolygon, putNode, putNothing, put}
 use Rattle.grammar.proofs.Lexemes.{every-join, lexeme-ascii}
 use Rattle.grammar.proofs.Back.{all-flat}
 

@@ -13,8 +13,8 @@ use Rattle.scan.specs.Bytes.{space, parenOpen, parenClose, comma, isAscii}
 use Rattle.words.specs.Words.{sameWord}
 use Rattle.names.specs.declared.Name.{Name}
 use Rattle.names.specs.declared.Ending.{Ending}
-use Rattle.names.specs.Kinds.{kindPoint, kindLineString, kindPolygon, kindMultiPoint, kindMultiLineString, kindMultiPolygon, kindGeometryCollection, dimXY, dimXYZ, dimXYM, dimXYZM, hasZ, hasM, width}
-use Rattle.names.specs.Lists.{every}
+use Rattle.kinds.specs.Kinds.{kindPoint, kindLineString, kindPolygon, kindMultiPoint, kindMultiLineString, kindMultiPolygon, kindGeometryCollection, dimXY, dimXYZ, dimXYM, dimXYZM, hasZ, hasM, width}
+use Rattle.lists.specs.Lists.{every}
 use Rattle.names.specs.Names.{names, endings, spellings, lookup, meaning, ending, isEmptyWord}
 use Rattle.names.specs.Strings.{empty as emptyWord}
 use Rattle.names.specs.Table.{isKnown}
@@ -26,9 +26,10 @@ use Rattle.tokenizer.specs.Lex.{lex}
 use Rattle.grammar.specs.Demand.{P, ret, ask, look, bind, ran, run, answerIn}
 use Rattle.grammar.specs.Tokens.{sortClose, sortComma, sortOf}
 use Rattle.grammar.specs.Grammar.{Out, out, Got, ok, opens, empty, wrong, refusal, andThen, items, closing, addNode, number, thenNumber, ifAsked, coord, pointBody, opened, opening, opener, headerEnding, header, byName, childHead, rootHead, lineBody, parens, lineIn, lineOf, linesBody, polygonIn, polygonOf, polygonsBody, pointIn, pointOf, pointsBody, multi, plain, geometryBy, childOf, collection, geometry, root}
-use Rattle.grammar.specs.Lists.{All}
-use Rattle.grammar.specs.Tree.{Coord, Node, pointN, lineN, polygonN, multipointN, multilineN, multipolygonN, collectionN, Tree, rowsWith, noRows, pointRows, lineRows, polygonRows, nodeRows, rows, coordTexts, lineTexts, polygonTexts, nodeTexts, noTexts, texts, spell, putNumber, each, separated, putCoord, putParts, putNamed, stringOf, putDimension, putWith, putPoint, putLine, putPolygon, putNode, putNothing, put, IsDimension, CoordShape, LineShape, PolygonShape, NodeShape, NoShape, Shape, Lexeme, GoodTree}
-use Rattle.grammar.specs.Store.{spanText, spanTexts}
+use Rattle.lists.specs.Lists.{All}
+use Rattle.tree.specs.Tree.{Coord, Node, pointN, lineN, polygonN, multipointN, multilineN, multipolygonN, collectionN, Tree, rowsWith, noRows, pointRows, lineRows, polygonRows, nodeRows, rows, coordTexts, lineTexts, polygonTexts, nodeTexts, noTexts, texts, IsDimension, CoordShape, LineShape, PolygonShape, NodeShape, NoShape, Shape, Lexeme, GoodTree}
+use Rattle.canonical_text.specs.Canonical.{spell, putNumber, each, separated, putCoord, putParts, putNamed, stringOf, putDimension, putWith, putPoint, putLine, putPolygon, putNode, putNothing, put}
+use Rattle.tree.specs.TreeIn.{spanText, spanTexts}
 use Rattle.grammar.proofs.Demand.{after, run-bind, run-step, run-size}
 use Rattle.grammar.proofs.Loops.{Loop, first, more, last}
 use Rattle.grammar.proofs.Lexing.{adv, Stop, IsWord, lex-word, lex-number, lex-blank, lex-open, lex-close, lex-comma, stop-blank, stop-open, stop-close, stop-comma, stop-end}

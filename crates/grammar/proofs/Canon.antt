@@ -12,11 +12,14 @@ use Rattle.limits.specs.Limits.{textLimit, depthLimit}
 use Rattle.store.specs.Rows.{Row, Span, span}
 use Rattle.grammar.specs.Grammar.{out, ok}
 use Rattle.grammar.specs.Whole.{enough, reading}
-use Rattle.grammar.specs.Lists.{All}
-use Rattle.grammar.specs.Answers.{SpanIn, Kept}
-use Rattle.grammar.specs.Tree.{Tree, rows, texts, put, Lexeme, GoodTree}
-use Rattle.grammar.specs.Store.{spanText, spanTexts, treeIn, WellFormed, canonical, textOfTree}
-use Rattle.grammar.proofs.Found.{tree-in, TreesOwn, trees-own}
+use Rattle.lists.specs.Lists.{All}
+use Rattle.grammar.specs.Answers.{Kept}
+use Rattle.tree.specs.TreeIn.{SpanIn}
+use Rattle.tree.specs.Tree.{Tree, rows, texts, Lexeme, GoodTree}
+use Rattle.canonical_text.specs.Canonical.{put}
+use Rattle.tree.specs.TreeIn.{spanText, spanTexts, treeIn, WellFormed}
+use Rattle.canonical_text.specs.Canonical.{canonical, textOfTree}
+use Rattle.tree.proofs.TreeIn.{tree-in, TreesOwn, trees-own}
 use Rattle.grammar.proofs.Fuel.{lex-size, reading-kept}
 use Rattle.grammar.proofs.WellRead.{reading-well-formed}
 use Rattle.grammar.proofs.Back.{tokens-back}

@@ -12,10 +12,10 @@ use lib.ListN.{length, length-append}
 use borrow.Author.Tests.{eqb-true, ltb-true, ltb-false}
 use Rattle.names.specs.declared.Name.{Name}
 use Rattle.names.specs.declared.Ending.{Ending}
-use Rattle.names.specs.Kinds.{kindPoint, kindLineString, kindPolygon, kindMultiPoint, kindMultiLineString, kindMultiPolygon, kindGeometryCollection, dimXY, hasZ, hasM}
+use Rattle.kinds.specs.Kinds.{kindPoint, kindLineString, kindPolygon, kindMultiPoint, kindMultiLineString, kindMultiPolygon, kindGeometryCollection, dimXY, hasZ, hasM}
 use Rattle.names.specs.Names.{meaning, ending, isEmptyWord}
 use Rattle.scan.specs.Bytes.{isAscii}
-use Rattle.names.specs.Lists.{every}
+use Rattle.lists.specs.Lists.{every}
 use Rattle.limits.specs.Limits.{textLimit, overLimit, depthLimit}
 use Rattle.utf8.specs.Utf8.{isUtf8}
 use Rattle.utf8.proofs.Walk.{in-text}
@@ -25,14 +25,16 @@ use Rattle.tokenizer.specs.declared.Refusal.{Refusal}
 use Rattle.tokenizer.specs.Stream.{Tok, Str, end, then, hd, tl, size}
 use Rattle.tokenizer.specs.Tokens.{cursorAt}
 use Rattle.tokenizer.specs.Lex.{lex}
-use Rattle.tokenizer.proofs.Stream.{either, size-tl, stream-size}
+use Rattle.tokenizer.proofs.Stream.{size-tl, stream-size}
+use Rattle.lists.proofs.Cases.{either}
 use Rattle.tokenizer.proofs.Bridge.{toks-lex}
 use Rattle.grammar.specs.Demand.{P, ret, ask, look, bind, Ran, ran, run, answerIn, leftIn}
 use Rattle.grammar.specs.Tokens.{sortOpen, sortClose, sortComma, sortNumber, sortWord, sortOf, placeOf, startOf, textOf}
 use Rattle.grammar.specs.Grammar.{Out, out, Got, ok, refused, halt, Head, opens, empty, wrong, refusal, andThen, fill, rowsUsed, items, closing, addNode, addNumber, number, thenNumber, ifAsked, coord, pointBody, opened, isEmptyTok, opening, opener, headerEnding, header, byName, childHead, rootHead, lineBody, parens, lineIn, lineOf, linesBody, polygonIn, polygonOf, polygonsBody, pointIn, barePoint, pointOf, pointsBody, multi, plain, geometryBy, childOf, collection, geometry, root}
 use Rattle.grammar.specs.Whole.{enough, reading}
-use Rattle.grammar.specs.Lists.{All}
-use Rattle.grammar.specs.Answers.{Passes, isRefusal, Refused, Halted, NumberIn, SpanIn, Kept}
+use Rattle.lists.specs.Lists.{All}
+use Rattle.grammar.specs.Answers.{Passes, isRefusal, Refused, Halted, Kept}
+use Rattle.tree.specs.TreeIn.{NumberIn, SpanIn}
 use Rattle.grammar.proofs.Demand.{after, run-bind}
 use Rattle.grammar.proofs.Tokens.{TokIn, ToksIn, hd-in, tl-in, place-in, refusal-in, number-in, lex-in}
 

@@ -9,7 +9,7 @@ use lib.ListN.{length}
 use Rattle.scan.specs.Bytes.{parenClose, isBlank, isStop}
 use Rattle.tokenizer.specs.Stream.{Tok, tok, close-tk, Str, end, then, hd, tl}
 use Rattle.tokenizer.specs.Lex.{markTk, runTk, Lexed, lexed, flush, push, lexByte, lexRun, lex}
-use Rattle.tokenizer.proofs.Stream.{either}
+use Rattle.lists.proofs.Cases.{either}
 use Rattle.grammar.specs.Demand.{P, ret, ask, look, run, answerIn}
 use Rattle.grammar.specs.Tokens.{placeOf}
 use Rattle.grammar.specs.Later.{lastOf}

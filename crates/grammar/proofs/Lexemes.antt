@@ -17,8 +17,8 @@ use Rattle.number.specs.Lexeme.{isE, inf, infinity, nan, isNamed, isDecimal, is
 use Rattle.number.specs.Grammar.{One, one, both, _or_, this, that, Maybe, absent, present, named, Digits1, Exp, Number, Float}
 use Rattle.number.proofs.Equal.{sound}
 use Rattle.names.specs.Letters.{isLetter}
-use Rattle.names.specs.Lists.{every}
-use Rattle.names.proofs.Lists.{every-head, every-tail, every-weaker}
+use Rattle.lists.specs.Lists.{every}
+use Rattle.lists.proofs.Lists.{every-head, every-tail, every-weaker}
 use Rattle.names.proofs.Letters.{same-every, letter-ascii, letter-inner}
 
 pub every-join : {A : Type 0} (p : A → Bool) (x y : List A) → every p x ≡ true → every p y ≡ true → every p (x ++ y) ≡ true

@@ -12,11 +12,11 @@ use Rattle.scan.specs.Front.{begins}
 use Rattle.scan.proofs.Bytes.{or-none}
 use Rattle.number.specs.Lexeme.{isLexeme}
 use Rattle.names.specs.Letters.{isLetter}
-use Rattle.names.specs.Lists.{every}
-use Rattle.names.proofs.Lists.{every-head, every-tail}
+use Rattle.lists.specs.Lists.{every}
+use Rattle.lists.proofs.Lists.{every-head, every-tail}
 use Rattle.tokenizer.specs.Stream.{open-tk, close-tk, comma-tk, word-tk, number-tk, tok, Str, end, then}
 use Rattle.tokenizer.specs.Lex.{markTk, numberTk, runTk, lexed, flush, push, lexByte, lexRun, lex}
-use Rattle.grammar.specs.Tree.{spell}
+use Rattle.canonical_text.specs.Canonical.{spell}
 use Rattle.grammar.proofs.Lexemes.{lexeme-inner, nil-lexeme, bare-first}
 
 -- the place after x

@@ -2,7 +2,6 @@ pub mod Demand
 pub mod Loops
 pub mod Tokens
 pub mod Fuel
-pub mod Found
 pub mod WellRead
 pub mod Later
 pub mod After

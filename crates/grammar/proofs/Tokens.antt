@@ -13,9 +13,10 @@ use Rattle.number.specs.Lexeme.{isLexeme}
 use Rattle.tokenizer.specs.Tokens.{badNumber}
 use Rattle.tokenizer.specs.Stream.{Tk, open-tk, close-tk, comma-tk, none-tk, bad-tk, word-tk, number-tk, Tok, tok, Str, end, then, hd, tl}
 use Rattle.tokenizer.specs.Lex.{markTk, numberTk, runTk, Lexed, lexed, flush, push, lexByte, lexRun, lex}
-use Rattle.tokenizer.proofs.Stream.{either}
+use Rattle.lists.proofs.Cases.{either}
 use Rattle.grammar.specs.Tokens.{sortNone, sortNumber, sortOf, placeOf, startOf, textOf, refusalAt}
-use Rattle.grammar.specs.Answers.{isRefusal, Refused, NumberIn}
+use Rattle.grammar.specs.Answers.{isRefusal, Refused}
+use Rattle.tree.specs.TreeIn.{NumberIn}
 
 module _ (text : List ℕ) where
   -- a token at p

@@ -11,26 +11,26 @@ use lib.ListN.{length, length-append, length-map}
 use borrow.Author.Tests.{leb-true}
 use Rattle.names.specs.declared.Name.{Name}
 use Rattle.names.specs.declared.Ending.{Ending}
-use Rattle.names.specs.Kinds.{kindPoint, kindLineString, kindPolygon, kindMultiPoint, kindMultiLineString, kindMultiPolygon, kindGeometryCollection, dimXY, hasZ, hasM, width}
-use Rattle.names.specs.Lists.{every}
+use Rattle.kinds.specs.Kinds.{kindPoint, kindLineString, kindPolygon, kindMultiPoint, kindMultiLineString, kindMultiPolygon, kindGeometryCollection, dimXY, hasZ, hasM, width}
+use Rattle.lists.specs.Lists.{every}
 use Rattle.names.specs.Names.{spellings, lookup, meaning, ending, isEmptyWord}
 use Rattle.scan.specs.Bytes.{isAscii}
-use Rattle.names.proofs.Lists.{every-head, every-tail}
+use Rattle.lists.proofs.Lists.{every-head, every-tail}
 use Rattle.store.specs.Rows.{Row, row, Span, span, setParts}
 use Rattle.store.proofs.Rows.{setParts-seam}
 use Rattle.limits.specs.Limits.{overLimit, depthLimit}
 use Rattle.utf8.specs.Utf8.{isUtf8}
 use Rattle.tokenizer.specs.Stream.{Tok, Str, hd, tl}
 use Rattle.tokenizer.specs.Lex.{lex}
-use Rattle.tokenizer.proofs.Stream.{either}
+use Rattle.lists.proofs.Cases.{either}
 use Rattle.grammar.specs.Demand.{P, ret, ask, look, bind, run, answerIn}
 use Rattle.grammar.specs.Tokens.{sortOpen, sortClose, sortComma, sortNumber, sortWord, sortOf, placeOf, startOf, textOf}
 use Rattle.grammar.specs.Grammar.{Out, out, Got, ok, refused, halt, Head, opens, empty, wrong, andThen, fill, items, closing, addNode, takeNumber, number, thenNumber, ifAsked, coord, pointBody, opened, isEmptyTok, opening, opener, headerEnding, header, byName, childHead, rootHead, lineBody, parens, lineIn, lineOf, linesBody, polygonIn, polygonOf, polygonsBody, pointIn, barePoint, pointOf, pointsBody, multi, plain, geometryBy, childOf, collection, geometry, root}
 use Rattle.grammar.specs.Whole.{enough, reading}
-use Rattle.grammar.specs.Lists.{All}
-use Rattle.grammar.specs.Tree.{Coord, Node, pointN, lineN, polygonN, multipointN, multilineN, multipolygonN, collectionN, rowsWith, noRows, pointRows, lineRows, polygonRows, nodeRows, rows, coordTexts, lineTexts, polygonTexts, nodeTexts, noTexts, texts, IsDimension, CoordShape, LineShape, PolygonShape, NodeShape, NoShape, Shape}
-use Rattle.grammar.specs.Store.{spanText, spanTexts, WellFormed}
-use Rattle.grammar.proofs.Found.{tree-in}
+use Rattle.lists.specs.Lists.{All}
+use Rattle.tree.specs.Tree.{Coord, Node, pointN, lineN, polygonN, multipointN, multilineN, multipolygonN, collectionN, rowsWith, noRows, pointRows, lineRows, polygonRows, nodeRows, rows, coordTexts, lineTexts, polygonTexts, nodeTexts, noTexts, texts, IsDimension, CoordShape, LineShape, PolygonShape, NodeShape, NoShape, Shape}
+use Rattle.tree.specs.TreeIn.{spanText, spanTexts, WellFormed}
+use Rattle.tree.proofs.TreeIn.{tree-in}
 use Rattle.grammar.proofs.Fuel.{reading-kept}
 
 -- ---- whatever tokens a reader is fed, Q holds of its answer

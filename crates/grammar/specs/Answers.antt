@@ -1,16 +1,16 @@
 -- What a reading can come to: the numbers and places that it can be refused with, and the rows that it can use.
-use Prim.Native.Nat.{ℕ, _+_, _≤_}
+use Prim.Native.Nat.{ℕ, _≤_}
 use mathlib.Core.Path.{_≡_}
 use mathlib.Core.Bool.{Bool, true, false, _||_, _&&_}
 use mathlib.Core.List.{List}
 use lib.Dec.{eqb, leb}
-use lib.ListN.{length, take, drop}
+use lib.ListN.{length}
 use Rattle.limits.specs.Limits.{overLimit}
 use Rattle.utf8.specs.Utf8.{isUtf8}
-use Rattle.number.specs.Lexeme.{isLexeme}
-use Rattle.store.specs.Rows.{Row, Span, span}
+use Rattle.store.specs.Rows.{Row, Span}
 use Rattle.tokenizer.specs.declared.Refusal.{Refusal}
-use Rattle.grammar.specs.Lists.{All}
+use Rattle.lists.specs.Lists.{All}
+use Rattle.tree.specs.TreeIn.{SpanIn}
 
 -- a text that is neither refused 1 nor 2
 pub record Passes (text : List ℕ) : Type 0 where
@@ -33,15 +33,6 @@ pub record Refused (text : List ℕ) (r : Refusal) : Type 0 where
 pub record Halted (text : List ℕ) (r : Refusal) : Type 0 where
   pub number : isHalt (r .number) ≡ true
   pub place : r .place ≤ length text
-
--- "each lies in its text and is a lexeme": a number row's start, length and bytes
-pub record NumberIn (text : List ℕ) (start len : ℕ) (x : List ℕ) : Type 0 where
-  pub inside : start + len ≤ length text
-  pub bytes : take len (drop start text) ≡ x
-  pub lexeme : isLexeme x ≡ true
-
-abbrev pub SpanIn : List ℕ → Span → Type 0
-SpanIn text (span start len x) = NumberIn text start len x
 
 -- the rows of a reading: no more than there is room for, and each number a lexeme of the text
 pub record Kept (text : List ℕ) (N M : ℕ) (rs : List Row) (ss : List Span) : Type 0 where

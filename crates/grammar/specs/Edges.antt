@@ -8,8 +8,8 @@ use Rattle.scan.specs.Text.{bytes}
 use Rattle.scan.specs.Front.{begins, afterOne, afterAll, isNil}
 use Rattle.words.specs.Words.{sameWord}
 use Rattle.number.specs.Lexeme.{isNamed, isDigits, isExponent, isDecimal, isUnsigned, isLexeme}
-use Rattle.names.specs.Kinds.{kindPoint, kindLineString, kindPolygon, kindMultiPoint, kindMultiLineString, kindMultiPolygon, kindGeometryCollection, dimXY, dimXYZ, dimXYM, dimXYZM}
-use Rattle.names.specs.Lists.{every}
+use Rattle.kinds.specs.Kinds.{kindPoint, kindLineString, kindPolygon, kindMultiPoint, kindMultiLineString, kindMultiPolygon, kindGeometryCollection, dimXY, dimXYZ, dimXYM, dimXYZM}
+use Rattle.lists.specs.Lists.{every}
 use Rattle.names.specs.Names.{spellings, lookup, meaning, ending}
 use Rattle.store.specs.Rows.{Row, row, Span, span, setParts}
 use Rattle.tokenizer.specs.Lex.{markTk, numberTk, runTk, flush, push, lexByte, lexRun, lex}
@@ -17,7 +17,7 @@ use Rattle.utf8.specs.Utf8.{table, fits, firstFit, width, walk, firstIll}
 use Rattle.grammar.specs.Demand.{bind, run}
 use Rattle.grammar.specs.Grammar.{Got, ok, refused, halt, out, refusal, andThen, items, closing, number, thenNumber, ifAsked, coord, pointBody, opened, opening, opener, header, childHead, rootHead, lineBody, parens, lineIn, lineOf, linesBody, polygonIn, polygonOf, polygonsBody, pointIn, barePoint, pointOf, pointsBody, multi, plain, geometryBy, childOf, collection, geometry, root}
 use Rattle.grammar.specs.Whole.{reading}
-use Rattle.grammar.specs.Lists.{All}
+use Rattle.lists.specs.Lists.{All}
 
 pub data Edge : Type 0 where
   reads : ℕ → ℕ → List ℕ → Got → Edge

@@ -6,10 +6,11 @@ use lib.Dec.{eqb, ltb, leb}
 use lib.ListN.{length}
 use Rattle.names.specs.declared.Name.{Name}
 use Rattle.names.specs.declared.Ending.{Ending}
-use Rattle.names.specs.Kinds.{kindPoint, kindLineString, kindPolygon, kindMultiPoint, kindMultiLineString, kindMultiPolygon, kindGeometryCollection, dimXY, dimXYZ, dimXYM, dimXYZM, hasZ, hasM}
+use Rattle.kinds.specs.Kinds.{kindPoint, kindLineString, kindPolygon, kindMultiPoint, kindMultiLineString, kindMultiPolygon, kindGeometryCollection, dimXY, dimXYZ, dimXYM, dimXYZM, hasZ, hasM}
 use Rattle.names.specs.Names.{meaning, ending, isEmptyWord}
 use Rattle.scan.specs.Bytes.{isAscii}
-use Rattle.names.specs.Lists.{every}
+use Rattle.lists.specs.Lists.{every}
+use Rattle.refusals.specs.Refusals.{noNodeRow, noNumberRow, tooDeep, nonAsciiRoot, noRoot, unknownName, noHeader, unknownHeader, notOpened, notClosed, noX, noY, noZ, noM, noChild}
 use Rattle.store.specs.Rows.{Row, row, Span, span, setParts}
 use Rattle.tokenizer.specs.declared.Refusal.{Refusal}
 use Rattle.tokenizer.specs.Stream.{Tok, Str}
@@ -61,7 +62,7 @@ items g (suc F) n i o =
 
 -- "anything but `)` gives 13; only with `)` does the body's own answer stand"
 abbrev pub closeBy : Tok → Got → Got
-closeBy t r = cond (eqb (sortOf t) sortClose) r (refuse 13 t)
+closeBy t r = cond (eqb (sortOf t) sortClose) r (refuse notClosed t)
 
 -- [from_tokens_with_parens, its end] "After the body one token is always taken, even when the body was refused."
 -- "Refusals 3, 4 and 5 instead end the reading at once."
@@ -72,10 +73,10 @@ closing (halt r) = ret (halt r)
 
 -- a node row is used where it can be, else 3 at the place p; a number row, else 4
 abbrev pub addNode : ℕ → Out → ℕ → ℕ → ℕ → Got
-addNode N (out rs ss) p k d = cond (ltb (length rs) N) (ok (out (rs ++ row k d 0 ∷ []) ss)) (halt (refusal 3 p))
+addNode N (out rs ss) p k d = cond (ltb (length rs) N) (ok (out (rs ++ row k d 0 ∷ []) ss)) (halt (refusal noNodeRow p))
 
 abbrev pub addNumber : ℕ → Out → ℕ → ℕ → List ℕ → Got
-addNumber M (out rs ss) p q x = cond (ltb (length ss) M) (ok (out rs (ss ++ span q (length x) x ∷ []))) (halt (refusal 4 p))
+addNumber M (out rs ss) p q x = cond (ltb (length ss) M) (ok (out rs (ss ++ span q (length x) x ∷ []))) (halt (refusal noNumberRow p))
 
 -- "a number row when a good number of a coordinate is taken"
 abbrev pub takeNumber : ℕ → ℕ → Out → Tok → Got
@@ -96,7 +97,7 @@ ifAsked M asked e r = cond asked (thenNumber M e r) (ret r)
 -- [Coord::from_tokens]
 unfoldable pub coord : ℕ → ℕ → Out → P Got
 coord M d o =
-    bind (number M 14 o) λ x. bind (thenNumber M 15 x) λ y. bind (ifAsked M (hasZ d) 16 y) λ z. ifAsked M (hasM d) 17 z
+    bind (number M noX o) λ x. bind (thenNumber M noY x) λ y. bind (ifAsked M (hasZ d) noZ y) λ z. ifAsked M (hasM d) noM z
 
 -- [Point::from_tokens] a point's body
 unfoldable pub pointBody : ℕ → ℕ → ℕ → Out → P Got
@@ -114,7 +115,7 @@ isEmptyTok t = cond (eqb (sortOf t) sortWord) (isEmptyWord (textOf t)) false
 unfoldable pub opening : ℕ → ℕ → Tok → Head
 opening k d t =
     cond (eqb (sortOf t) sortOpen) (opens k d (placeOf t))
-    (cond (isEmptyTok t) (empty k d (placeOf t)) (wrong (refusalAt 12 t)))
+    (cond (isEmptyTok t) (empty k d (placeOf t)) (wrong (refusalAt notOpened t)))
 
 unfoldable pub opener : ℕ → ℕ → P Head
 opener k d = ask λ t. ret (opening k d t)
@@ -122,30 +123,30 @@ opener k d = ask λ t. ret (opening k d t)
 -- [infer_geom_dimension] "Word `Z`, `M`, `ZM`: taken. Word `EMPTY` or a non-word: XY. Another word: 11."
 abbrev pub headerEnding : ℕ → Tok → Ending → P Head
 headerEnding k t (Ending.Is d) = ask λ z. opener k d
-headerEnding k t Ending.No = cond (isEmptyWord (textOf t)) (opener k dimXY) (ret (wrong (refusal 11 (placeOf t))))
+headerEnding k t Ending.No = cond (isEmptyWord (textOf t)) (opener k dimXY) (ret (wrong (refusal unknownHeader (placeOf t))))
 
 -- "Header after a bare name: look at one token. No token or a bad number: 10."
 unfoldable pub header : ℕ → P Head
 header k = look λ t.
-    cond (ltb (sortOf t) sortOpen) (ret (wrong (refusal 10 (placeOf t))))
+    cond (ltb (sortOf t) sortOpen) (ret (wrong (refusal noHeader (placeOf t))))
     (cond (eqb (sortOf t) sortWord) (headerEnding k t (ending (textOf t))) (opener k dimXY))
 
 -- [from_word_and_tokens] "Else refusal 9." "After a joined name no header is looked for."
 abbrev pub byName : ℕ → Name → P Head
-byName p Name.Unknown = ret (wrong (refusal 9 p))
+byName p Name.Unknown = ret (wrong (refusal unknownName p))
 byName p (Name.Bare k) = header k
 byName p (Name.Joined k d) = opener k d
 
 -- [GeometryCollection::from_tokens] "Collection: a word (else 18), then any geometry with its own header"
 unfoldable pub childHead : P Head
-childHead = ask λ t. cond (eqb (sortOf t) sortWord) (byName (placeOf t) (meaning (textOf t))) (ret (wrong (refusalAt 18 t)))
+childHead = ask λ t. cond (eqb (sortOf t) sortWord) (byName (placeOf t) (meaning (textOf t))) (ret (wrong (refusalAt noChild t)))
 
 -- [Wkt::from_tokens] "Root: a word. A non-ASCII word is refused 7; a bad number 6; no token or any other token 8."
 unfoldable pub rootHead : P Head
 rootHead = ask λ t.
     cond (eqb (sortOf t) sortWord)
-    (cond (every isAscii (textOf t)) (byName (placeOf t) (meaning (textOf t))) (ret (wrong (refusal 7 (placeOf t)))))
-    (ret (wrong (refusalAt 8 t)))
+    (cond (every isAscii (textOf t)) (byName (placeOf t) (meaning (textOf t))) (ret (wrong (refusal nonAsciiRoot (placeOf t)))))
+    (ret (wrong (refusalAt noRoot t)))
 
 -- with room for N node rows and M number rows
 module _ (N M F : ℕ) where
@@ -221,7 +222,7 @@ module _ (N M F : ℕ) where
 
   -- a collection whose `(` was taken at p, with n more that may be opened: "5 before 3 at one `(`"
   unfoldable pub collection : ℕ → ℕ → ℕ → Out → P Got
-  collection zero d p o = ret (halt (refusal 5 p))
+  collection zero d p o = ret (halt (refusal tooDeep p))
   collection (suc n) d p o = opened N kindGeometryCollection d (λ i o1. items (childOf (collection n)) F 0 i o1) p o
 
   -- a geometry after its name, with n more collections that may be opened

@@ -1,11 +1,7 @@
-pub mod Lists
 pub mod Demand
 pub mod Tokens
 pub mod Grammar
 pub mod Whole
 pub mod Answers
 pub mod Later
-pub mod Tree
-pub mod Store
 pub mod Edges
-pub mod Examples

@@ -4,6 +4,7 @@ use mathlib.Core.List.{List}
 use Prim.Native.Nat.{ℕ}
 use lib.ListN.{length}
 use Rattle.limits.specs.Limits.{textLimit, overLimit, depthLimit}
+use Rattle.refusals.specs.Refusals.{textTooLong, illFormedUtf8}
 use Rattle.utf8.specs.Utf8.{isUtf8, firstIll}
 use Rattle.tokenizer.specs.Lex.{lex}
 use Rattle.grammar.specs.Demand.{run, answerIn}
@@ -16,5 +17,5 @@ enough = 4294967296
 -- "Order for reading: 1, 2, then as met". "What follows the root is unread."
 unfoldable pub reading : ℕ → ℕ → List ℕ → Got
 reading N M text =
-    cond (overLimit (length text)) (refused (refusal 1 textLimit))
-    (cond (isUtf8 text) (answerIn (run (root N M enough depthLimit) (lex 0 text))) (refused (refusal 2 (firstIll text))))
+    cond (overLimit (length text)) (refused (refusal textTooLong textLimit))
+    (cond (isUtf8 text) (answerIn (run (root N M enough depthLimit) (lex 0 text))) (refused (refusal illFormedUtf8 (firstIll text))))

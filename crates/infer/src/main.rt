@@ -14,21 +14,21 @@ fn print(text: &[u8]) {
 // By infer_type's answers a kind is one of the seven, and a dimension one of the four.
 fn print_kind(kind: u32) {
     match kind {
-        names::KIND_POINT => print(&names::POINT),
-        names::KIND_LINESTRING => print(&names::LINESTRING),
-        names::KIND_POLYGON => print(&names::POLYGON),
-        names::KIND_MULTIPOINT => print(&names::MULTIPOINT),
-        names::KIND_MULTILINESTRING => print(&names::MULTILINESTRING),
-        names::KIND_MULTIPOLYGON => print(&names::MULTIPOLYGON),
+        kinds::KIND_POINT => print(&names::POINT),
+        kinds::KIND_LINESTRING => print(&names::LINESTRING),
+        kinds::KIND_POLYGON => print(&names::POLYGON),
+        kinds::KIND_MULTIPOINT => print(&names::MULTIPOINT),
+        kinds::KIND_MULTILINESTRING => print(&names::MULTILINESTRING),
+        kinds::KIND_MULTIPOLYGON => print(&names::MULTIPOLYGON),
         _ => print(&names::GEOMETRYCOLLECTION),
     }
 }
 
 fn print_dimension(dimension: u32) {
     match dimension {
-        names::DIM_XY => print(b"XY"),
-        names::DIM_XYZ => print(b"XYZ"),
-        names::DIM_XYM => print(b"XYM"),
+        kinds::DIM_XY => print(b"XY"),
+        kinds::DIM_XYZ => print(b"XYZ"),
+        kinds::DIM_XYM => print(b"XYM"),
         _ => print(b"XYZM"),
     }
 }

@@ -15,13 +15,13 @@ use Rattle.scan.proofs.Runs.{not-before, not-past, first-fails, many-part, move
 use Rattle.utf8.specs.Utf8.{isUtf8}
 use Rattle.scan.specs.Bytes.{isAscii}
 use Rattle.words.specs.Words.{startsWord}
-use Rattle.names.specs.Kinds.{kindPoint, kindGeometryCollection, dimXY, dimXYZ, dimXYM, dimXYZM}
+use Rattle.kinds.specs.Kinds.{kindPoint, kindGeometryCollection, dimXY, dimXYZ, dimXYM, dimXYZM}
 use Rattle.names.specs.Strings.{z, m, zm, empty}
-use Rattle.names.specs.Lists.{every}
+use Rattle.lists.specs.Lists.{every}
 use Rattle.names.specs.Names.{names, lookup, frontRow, front}
 use Rattle.names.specs.declared.Front.{Front}
 use Rattle.names.specs.declared.Front.the-variants.{Begun, Other}
-use Rattle.names.proofs.Lists.{every-head, every-tail}
+use Rattle.lists.proofs.Lists.{every-head, every-tail}
 use Rattle.infer_type.specs.declared.Inferred.{Inferred}
 use Rattle.infer_type.specs.Refusals.{emptyWithoutSpace, neitherParenNorEmpty}
 use Rattle.infer_type.specs.Part.{isTrimmed, isLooked, startAt, endAt, wideAt, looked}

@@ -6,7 +6,7 @@ use mathlib.Core.List.{List}
 use Prim.Native.Nat.{ℕ, _+_, _≤_, _<_}
 use lib.ListN.{length, drop}
 use Rattle.words.specs.Words.{startsWord}
-use Rattle.names.specs.Kinds.{dimXY, dimXYZ, dimXYM, dimXYZM}
+use Rattle.kinds.specs.Kinds.{dimXY, dimXYZ, dimXYM, dimXYZM}
 use Rattle.names.specs.Strings.{z, m, zm}
 use Rattle.infer_type.specs.Search.{hasWord}
 use Rattle.infer_type.specs.Infer.{dimensionIn}

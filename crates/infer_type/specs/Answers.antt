@@ -9,7 +9,7 @@ use Rattle.scan.specs.Runs.{Many}
 use Rattle.scan.specs.Front.{rest, part, begins}
 use Rattle.utf8.specs.Utf8.{isUtf8, firstIll}
 use Rattle.scan.specs.Bytes.{isAscii}
-use Rattle.names.specs.Kinds.{kindPoint, kindGeometryCollection, dimXYZM}
+use Rattle.kinds.specs.Kinds.{kindPoint, kindGeometryCollection, dimXYZM}
 use Rattle.infer_type.specs.declared.Inferred.{Inferred}
 use Rattle.infer_type.specs.Refusals.{textTooLong, illFormedUtf8, unsupportedName, emptyWithoutSpace, neitherParenNorEmpty, nonAscii}
 use Rattle.infer_type.specs.Part.{isTrimmed, isLooked}

@@ -7,7 +7,7 @@ use lib.ListN.{length, drop}
 use Rattle.limits.specs.Limits.{textLimit, overLimit}
 use Rattle.scan.specs.Bytes.{space}
 use Rattle.utf8.specs.Utf8.{isUtf8, firstIll}
-use Rattle.names.specs.Kinds.{dimXY, dimXYZ, dimXYM, dimXYZM}
+use Rattle.kinds.specs.Kinds.{dimXY, dimXYZ, dimXYM, dimXYZM}
 use Rattle.names.specs.Strings.{z, m, zm, empty}
 use Rattle.names.specs.Names.{front}
 use Rattle.names.specs.declared.Front.{Front}

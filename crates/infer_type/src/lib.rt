@@ -121,18 +121,18 @@ fn dimension_in(part: &[u8]) -> u32
     while i < part.len() {
         let rest = &part[i..];
         if words::starts_with_word(rest, &names::ZM) {
-            return names::DIM_XYZM;
+            return kinds::DIM_XYZM;
         }
         has_z = has_z | words::starts_with_word(rest, &names::Z);
         has_m = has_m | words::starts_with_word(rest, &names::M);
         i += 1;
     }
     if has_z {
-        names::DIM_XYZ
+        kinds::DIM_XYZ
     } else if has_m {
-        names::DIM_XYM
+        kinds::DIM_XYM
     } else {
-        names::DIM_XY
+        kinds::DIM_XY
     }
 }
 

@@ -13,12 +13,12 @@ use Rattle.names.specs.declared.Name.{Name}
 use Rattle.names.specs.declared.Ending.{Ending}
 use Rattle.names.specs.declared.Front.{Front}
 use Rattle.names.specs.declared.Front.the-variants.{Begun, Other}
-use Rattle.names.specs.Kinds.{kindLineString}
+use Rattle.kinds.specs.Kinds.{kindLineString}
 use Rattle.names.specs.Strings.{linearring}
-use Rattle.names.specs.Lists.{every, pairwise}
+use Rattle.lists.specs.Lists.{every, pairwise}
 use Rattle.names.specs.Names.{names, endings, named, spelling, withEndings, extra, spellings, lookup, meaning, endingRow, ending, frontRow, front, afterName}
 use Rattle.names.specs.Table.{apart, fronts}
-use Rattle.names.proofs.Lists.{every-head, every-tail, pairwise-head, pairwise-tail}
+use Rattle.lists.proofs.Lists.{every-head, every-tail, pairwise-head, pairwise-tail}
 use Rattle.names.proofs.Lookup.{miss}
 
 -- what a word that begins with a name, or with none, means

@@ -14,11 +14,11 @@ use Rattle.words.specs.Words.{upper, isLower, sameByte, sameWord}
 use Rattle.names.specs.declared.Name.{Name}
 use Rattle.names.specs.declared.Ending.{Ending}
 use Rattle.names.specs.Strings.{empty}
-use Rattle.names.specs.Lists.{every}
+use Rattle.lists.specs.Lists.{every}
 use Rattle.names.specs.Names.{spellings, lookup, meaning, ending, isEmptyWord, endings, endingRow}
 use Rattle.names.specs.Table.{isKnown}
 use Rattle.names.specs.Letters.{isLetter}
-use Rattle.names.proofs.Lists.{every-mem, every-head, every-weaker}
+use Rattle.lists.proofs.Lists.{every-mem, every-head, every-weaker}
 use Rattle.names.proofs.Lookup.{found}
 use Rattle.names.proofs.Table.{means-spelled, not-known}
 

@@ -1,6 +1,4 @@
-pub mod Lists
 pub mod Lookup
 pub mod Fronts
 pub mod Table
 pub mod Letters
-pub mod Widths

@@ -8,10 +8,10 @@ use mathlib.Core.Logic.{⊎-elim}
 use borrow.Author.Tests.{not-true}
 use Rattle.words.specs.Words.{sameWord}
 use Rattle.words.proofs.Words.{same-both}
-use Rattle.names.specs.Lists.{pairwise}
+use Rattle.lists.specs.Lists.{pairwise}
 use Rattle.names.specs.Names.{lookup}
 use Rattle.names.specs.Table.{differ}
-use Rattle.names.proofs.Lists.{every-mem, pairwise-head, pairwise-tail}
+use Rattle.lists.proofs.Lists.{every-mem, pairwise-head, pairwise-tail}
 
 module _ {A : Type 0} (test : List ℕ → List ℕ → Bool) (other : A) (w : List ℕ) where
   pub miss : (row : A × List ℕ) (rows : List (A × List ℕ)) → test w (row .1) ≡ false → lookup test other (row ∷ rows) w ≡ lookup test other rows w

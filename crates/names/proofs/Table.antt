@@ -8,10 +8,10 @@ use lib.ListN.{length}
 use Rattle.words.specs.Words.{sameWord}
 use Rattle.names.specs.declared.Name.{Name}
 use Rattle.names.specs.declared.Name.the-variants.{Unknown, Bare, Joined}
-use Rattle.names.specs.Lists.{every, pairwise}
+use Rattle.lists.specs.Lists.{every, pairwise}
 use Rattle.names.specs.Names.{spellings, meaning}
 use Rattle.names.specs.Table.{IsSpelling, isKnown, differ}
-use Rattle.names.proofs.Lists.{every-mem}
+use Rattle.lists.proofs.Lists.{every-mem}
 use Rattle.names.proofs.Lookup.{Found, finds, found}
 
 pub count : length spellings ≡ 29

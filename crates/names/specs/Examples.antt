@@ -8,7 +8,6 @@ use Rattle.words.specs.Words.{sameWord, startsWord}
 use Rattle.names.specs.declared.Name.{Name}
 use Rattle.names.specs.declared.Ending.{Ending}
 use Rattle.names.specs.declared.Front.{Front}
-use Rattle.names.specs.Kinds.{dimXY, dimXYZ, dimXYM, dimXYZM, width}
 use Rattle.names.specs.Names.{spellings, lookup, meaning, ending, front, isEmptyWord}
 
 means : List ℕ → Name → Type 0
@@ -62,8 +61,3 @@ begun = (refl, refl)
 emptyWord : isEmptyWord (bytes "Empty") ≡ true
 unfolding sameWord
 emptyWord = refl
-
--- a coordinate of XY has two numbers, of XYZ and XYM three, of XYZM four
-widths : (width dimXY ≡ 2) × (width dimXYZ ≡ 3) × (width dimXYM ≡ 3) × (width dimXYZM ≡ 4)
-unfolding width
-widths = (refl, refl, refl, refl)

@@ -1,6 +1,4 @@
-pub mod Kinds
 pub mod Strings
-pub mod Lists
 pub mod Names
 pub mod Table
 pub mod Letters

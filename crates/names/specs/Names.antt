@@ -9,7 +9,7 @@ use Rattle.names.specs.declared.Name.{Name}
 use Rattle.names.specs.declared.Ending.{Ending}
 use Rattle.names.specs.declared.Ending.the-variants.{Is, No}
 use Rattle.names.specs.declared.Front.{Front}
-use Rattle.names.specs.Kinds.{kindPoint, kindLineString, kindPolygon, kindMultiPoint, kindMultiLineString, kindMultiPolygon, kindGeometryCollection, dimXY, dimXYZ, dimXYM, dimXYZM}
+use Rattle.kinds.specs.Kinds.{kindPoint, kindLineString, kindPolygon, kindMultiPoint, kindMultiLineString, kindMultiPolygon, kindGeometryCollection, dimXY, dimXYZ, dimXYM, dimXYZM}
 use Rattle.names.specs.Strings.{point, linestring, polygon, multipoint, multilinestring, multipolygon, geometrycollection, linearring, none, z, m, zm, empty}
 
 -- the seven names, each with its kind

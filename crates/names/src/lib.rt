@@ -1,7 +1,17 @@
 // The names of the geometries, their endings, and the words that they make.
 ghost use mathlib.Core.Path.{_≡_};
-ghost use Rattle.names.specs.Kinds.{hasZ, hasM, width};
 ghost use Rattle.names.specs.Names.{meaning, ending, isEmptyWord, front, afterName};
+use kinds::DIM_XY;
+use kinds::DIM_XYM;
+use kinds::DIM_XYZ;
+use kinds::DIM_XYZM;
+use kinds::KIND_GEOMETRYCOLLECTION;
+use kinds::KIND_LINESTRING;
+use kinds::KIND_MULTILINESTRING;
+use kinds::KIND_MULTIPOINT;
+use kinds::KIND_MULTIPOLYGON;
+use kinds::KIND_POINT;
+use kinds::KIND_POLYGON;
 
 pub const POINT: [u8; 5] = *b"POINT";
 
@@ -31,28 +41,6 @@ pub const ZM: [u8; 2] = *b"ZM";
 
 pub const EMPTY: [u8; 5] = *b"EMPTY";
 
-pub const KIND_POINT: u32 = 1;
-
-pub const KIND_LINESTRING: u32 = 2;
-
-pub const KIND_POLYGON: u32 = 3;
-
-pub const KIND_MULTIPOINT: u32 = 4;
-
-pub const KIND_MULTILINESTRING: u32 = 5;
-
-pub const KIND_MULTIPOLYGON: u32 = 6;
-
-pub const KIND_GEOMETRYCOLLECTION: u32 = 7;
-
-pub const DIM_XY: u32 = 0;
-
-pub const DIM_XYZ: u32 = 1;
-
-pub const DIM_XYM: u32 = 2;
-
-pub const DIM_XYZM: u32 = 3;
-
 // What a word means.
 pub enum Name {
     Unknown,
@@ -72,29 +60,6 @@ pub enum Ending {
 pub enum Front {
     Begun(u32, usize),
     Other,
-}
-
-pub fn has_z(dimension: u32) -> bool
-    ensures { λ r. ⌜ r ≡ hasZ dimension ⌝ }
-{
-    (dimension == DIM_XYZ) | (dimension == DIM_XYZM)
-}
-
-pub fn has_m(dimension: u32) -> bool
-    ensures { λ r. ⌜ r ≡ hasM dimension ⌝ }
-{
-    (dimension == DIM_XYM) | (dimension == DIM_XYZM)
-}
-
-// How many numbers a coordinate has.
-pub fn width_of(dimension: u32) -> usize
-    ensures { λ r. ⌜ r ≡ width dimension ⌝ }
-{
-    if has_z(dimension) {
-        if has_m(dimension) { 4 } else { 3 }
-    } else {
-        if has_m(dimension) { 3 } else { 2 }
-    }
 }
 
 // Which of the four endings `w` is.

@@ -9,7 +9,7 @@ use lib.Dec.{eqb, leb, ltb}
 use borrow.Author.Tests.{ne-eqb, eqb-true, leb-true, ltb-true}
 use lib.ListN.{length}
 use Rattle.limits.specs.Limits.{depthLimit}
-use Rattle.names.specs.Kinds.{kindPoint, kindLineString, kindMultiPoint, kindMultiPolygon, kindGeometryCollection}
+use Rattle.kinds.specs.Kinds.{kindPoint, kindLineString, kindMultiPoint, kindMultiPolygon, kindGeometryCollection}
 use Rattle.shape.specs.declared.Frame.{Frame}
 use Rattle.shape.specs.declared.Visit.{Visit}
 use Rattle.shape.specs.Nodes.{noKind, above, isFree, childKind, isGeometry, isChild, isAllowed, isLeaf, isCollection, mayOpen, opened, fewer, after}

@@ -12,7 +12,7 @@ use borrow.Author.Tests.{le-leb, lt-leb}
 use lib.ListN.{length, take, drop, length-drop, drop-of-length-le}
 use lib.Seq.{take-all}
 use Rattle.scan.specs.Front.{part}
-use Rattle.names.specs.Lists.{every}
+use Rattle.lists.specs.Lists.{every}
 use Rattle.number.specs.Lexeme.{isLexeme}
 use Rattle.store.specs.Rows.{startAt, lengthAt, spanAt, numberRoom, firsts, spansIn}
 use Rattle.shape.specs.Numbers.{textAt, isNumber, isNumberAt, areNumbers}

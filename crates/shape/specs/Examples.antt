@@ -4,11 +4,11 @@ use mathlib.Core.Bool.{Bool, true, false}
 use mathlib.Core.Option.{some}
 use mathlib.Core.List.{List, [], _∷_, _++_}
 use Prim.Native.Nat.{ℕ, zero, suc}
-use Rattle.names.specs.Kinds.{width}
+use Rattle.kinds.specs.Kinds.{width}
 use Rattle.scan.specs.Text.{bytes}
 use Rattle.scan.specs.Front.{begins, afterOne, afterAll, isNil}
 use Rattle.words.specs.Words.{sameWord}
-use Rattle.names.specs.Lists.{every}
+use Rattle.lists.specs.Lists.{every}
 use Rattle.number.specs.Lexeme.{isNamed, isDigits, isExponent, isDecimal, isUnsigned, isLexeme}
 use Rattle.store.specs.Rows.{row, cell, firsts, rowsIn, spansIn}
 use Rattle.shape.specs.Nodes.{frame, above, visitOf, numbersOf, childKind, isAllowed, after, ends, isOpen, ending, atLast, visitsBy, visits, treeOf}

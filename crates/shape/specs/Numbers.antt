@@ -4,7 +4,7 @@ use mathlib.Core.List.{List}
 use Prim.Native.Nat.{ℕ, _+_}
 use lib.Dec.{leb}
 use lib.ListN.{length, take, drop}
-use Rattle.names.specs.Lists.{every}
+use Rattle.lists.specs.Lists.{every}
 use Rattle.number.specs.Lexeme.{isLexeme}
 use Rattle.store.specs.Rows.{Span, span, startAt, lengthAt, spanAt, numberRoom, spansIn}
 

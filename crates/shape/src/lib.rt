@@ -7,14 +7,14 @@ ghost use Rattle.shape.specs.Nodes.{visitOf, isLeaf, numbersOf, isFree, 
 ghost use Rattle.shape.specs.Numbers.{textAt, isNumberAt, areNumbers};
 ghost use Rattle.shape.specs.Store.{wellFormed};
 ghost use Rattle.shape.specs.Walk.{HasNext, Pushes, closeFrom, ill, begin, atEnd, passing, pushing, entering, step};
+use kinds::DIM_XYZM;
+use kinds::KIND_GEOMETRYCOLLECTION;
+use kinds::KIND_LINESTRING;
+use kinds::KIND_MULTIPOINT;
+use kinds::KIND_MULTIPOLYGON;
+use kinds::KIND_POINT;
+use kinds::KIND_POLYGON;
 use limits::DEPTH_LIMIT;
-use names::DIM_XYZM;
-use names::KIND_GEOMETRYCOLLECTION;
-use names::KIND_LINESTRING;
-use names::KIND_MULTIPOINT;
-use names::KIND_MULTIPOLYGON;
-use names::KIND_POINT;
-use names::KIND_POLYGON;
 use store::NODE_WIDTH;
 use store::NUMBER_WIDTH;
 
@@ -84,7 +84,7 @@ pub fn numbers_of(v: Visit) -> usize
     ensures { λ r. ⌜ r ≡ numbersOf v ⌝ }
 {
     if v.kind <= KIND_LINESTRING {
-        return (v.parts as usize) * names::width_of(v.dimension);
+        return (v.parts as usize) * kinds::width_of(v.dimension);
     }
     0
 }

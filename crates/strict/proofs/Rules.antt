@@ -10,7 +10,7 @@ use native.Mathlib.Nat.{suc-mul}
 use borrow.Author.Tests.{eq-eqb, ne-eqb, eqb-true, le-leb}
 use lib.ListN.{length, getD, drop, drop-of-length-le}
 use lib.Seq.{drop-cons}
-use Rattle.names.specs.Kinds.{kindLineString, width}
+use Rattle.kinds.specs.Kinds.{kindLineString, width}
 use Rattle.shape.specs.declared.Visit.{Visit}
 use Rattle.shape.specs.Nodes.{numbersOf, isLeaf}
 use Rattle.shape.specs.Numbers.{textAt}

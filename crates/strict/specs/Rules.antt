@@ -3,7 +3,7 @@ use mathlib.Core.Bool.{Bool, true, false, cond, not, _&&_}
 use mathlib.Core.List.{List, [], _∷_}
 use Prim.Native.Nat.{ℕ, zero, suc, _+_, _-_, _*_, _^_, _≤_, _<_}
 use lib.Dec.{eqb, ltb}
-use Rattle.names.specs.Kinds.{kindLineString, kindPolygon, kindGeometryCollection, width}
+use Rattle.kinds.specs.Kinds.{kindLineString, kindPolygon, kindGeometryCollection, width}
 use Rattle.store.specs.Rows.{numberRoom}
 use Rattle.shape.specs.declared.Visit.{Visit}
 use Rattle.shape.specs.Numbers.{textAt}

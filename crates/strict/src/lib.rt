@@ -1,12 +1,12 @@
 // The strict check: rules A to D over the nodes of a well-formed store.
 ghost use mathlib.Core.Path.{_≡_};
 ghost use Prim.Native.Nat.{_≤_};
-ghost use Rattle.names.specs.Kinds.{kindLineString};
+ghost use Rattle.kinds.specs.Kinds.{kindLineString};
 ghost use Rattle.strict.specs.Rules.{sameBytes, sameTexts, isRing, isShort, failsA, failsB, failsC, failsD, closed, fault, HasNumbers, Within};
 ghost use Rattle.strict.specs.Strict.{strictOf};
-use names::KIND_GEOMETRYCOLLECTION;
-use names::KIND_LINESTRING;
-use names::KIND_POLYGON;
+use kinds::KIND_GEOMETRYCOLLECTION;
+use kinds::KIND_LINESTRING;
+use kinds::KIND_POLYGON;
 use shape::Found;
 use shape::ILL_FORMED;
 use shape::Visit;
@@ -64,7 +64,7 @@ fn is_closed(text: &[u8], numbers: &[u32], v: Visit) -> bool
     if v.parts == 0 {
         return true;
     }
-    let width = names::width_of(v.dimension);
+    let width = kinds::width_of(v.dimension);
     let last = v.number + ((v.parts - 1) as usize) * width;
     same_texts(text, numbers, v.number, last, width)
 }

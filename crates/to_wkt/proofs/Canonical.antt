@@ -11,11 +11,11 @@ use borrow.Author.Tests.{le-leb, ne-eqb}
 use lib.ListN.{length, getD}
 use Rattle.scan.specs.Bytes.{space, comma, parenClose, plus}
 use Rattle.scan.specs.Front.{begins}
-use Rattle.names.specs.Kinds.{kindLineString, width}
+use Rattle.kinds.specs.Kinds.{kindLineString, width}
 use Rattle.names.specs.Names.{names, endings}
 use Rattle.store.specs.Rows.{numberRoom}
 use Rattle.shape.specs.declared.Visit.{Visit}
-use Rattle.names.proofs.Widths.{width-some}
+use Rattle.kinds.proofs.Widths.{width-some}
 use Rattle.shape.specs.Nodes.{numbersOf, isLeaf}
 use Rattle.shape.specs.Numbers.{textAt}
 use Rattle.to_wkt.specs.Canonical.{startsPlused, needsPlus, spell, putNumber, putSpaced, putCoordinate, putListed, putClosings, stringOf}

@@ -6,7 +6,7 @@ use Prim.Native.Nat.{ℕ, zero, suc, _+_, _-_}
 use lib.Dec.{eqb, leb}
 use Rattle.scan.specs.Bytes.{space, parenOpen, parenClose, comma, plus, isPlus}
 use Rattle.scan.specs.Front.{begins}
-use Rattle.names.specs.Kinds.{kindLineString, dimXY, width}
+use Rattle.kinds.specs.Kinds.{kindLineString, dimXY, width}
 use Rattle.names.specs.Letters.{isLetter}
 use Rattle.names.specs.Names.{names, endings}
 use Rattle.names.specs.Strings.{empty}

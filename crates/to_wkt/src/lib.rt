@@ -4,26 +4,26 @@ ghost use mathlib.Core.Bool.{true};
 ghost use mathlib.Core.List.{[]};
 ghost use Prim.Native.Nat.{_≤_};
 ghost use lib.ListN.{length};
-ghost use Rattle.names.specs.Kinds.{kindLineString};
+ghost use Rattle.kinds.specs.Kinds.{kindLineString};
 ghost use Rattle.names.specs.Letters.{isLetter};
 ghost use Rattle.pen.specs.Pen.{Emits, Left};
 ghost use Rattle.shape.specs.Store.{wellFormed};
 ghost use Rattle.store.specs.Rows.{cleared};
 ghost use Rattle.to_wkt.specs.Canonical.{needsPlus, putNumber, putCoordinate, putCoordinates, putName, putDimension, putHead, putBody, putClosings, putTail, putNode, textOf};
 ghost use Rattle.to_wkt.specs.Write.{HasCoordinate, HasCoordinates, HasNumbers, refused, Written};
-use names::DIM_XY;
-use names::DIM_XYM;
-use names::DIM_XYZ;
-use names::DIM_XYZM;
+use kinds::DIM_XY;
+use kinds::DIM_XYM;
+use kinds::DIM_XYZ;
+use kinds::DIM_XYZM;
+use kinds::KIND_GEOMETRYCOLLECTION;
+use kinds::KIND_LINESTRING;
+use kinds::KIND_MULTILINESTRING;
+use kinds::KIND_MULTIPOINT;
+use kinds::KIND_MULTIPOLYGON;
+use kinds::KIND_POINT;
+use kinds::KIND_POLYGON;
 use names::EMPTY;
 use names::GEOMETRYCOLLECTION;
-use names::KIND_GEOMETRYCOLLECTION;
-use names::KIND_LINESTRING;
-use names::KIND_MULTILINESTRING;
-use names::KIND_MULTIPOINT;
-use names::KIND_MULTIPOLYGON;
-use names::KIND_POINT;
-use names::KIND_POLYGON;
 use names::LINESTRING;
 use names::M;
 use names::MULTILINESTRING;
@@ -182,7 +182,7 @@ fn put_body(out: &mut [u8], p: Pen, text: &[u8], numbers: &[u32], v: Visit) -> P
     if KIND_LINESTRING < v.kind {
         return open;
     }
-    let width = names::width_of(v.dimension);
+    let width = kinds::width_of(v.dimension);
     let q = put_coordinates(out, open, text, numbers, v.number, width, v.parts as usize);
     pen::put_byte(out, q, b')')
 }

@@ -24,7 +24,8 @@ use Rattle.tokenizer.specs.declared.Refusal.{Refusal}
 use Rattle.tokenizer.specs.Tokens.{badNumber, badAt, endOf, afterBlank, textStart, numberOr, numberAt, wordAt, startAt, tokenAt, readAt}
 use Rattle.tokenizer.specs.Stream.{Tk, open-tk, close-tk, comma-tk, none-tk, bad-tk, word-tk, number-tk, tok, Str, end, then, cons, tokIn, toksBy, toks}
 use Rattle.tokenizer.specs.Lex.{markTk, numberTk, runTk, Lexed, lexed, flush, push, lexByte, lexRun, lex}
-use Rattle.tokenizer.proofs.Stream.{either, read-on, read-within, none-end, plus-end}
+use Rattle.tokenizer.proofs.Stream.{read-on, read-within, none-end, plus-end}
+use Rattle.lists.proofs.Cases.{either}
 
 module _ (text : List ℕ) where
   X : ℕ → Lexed

@@ -21,7 +21,7 @@ use Rattle.tokenizer.specs.declared.Cursor.{Cursor}
 use Rattle.tokenizer.specs.Tokens.{endOf, textStart, numberOr, numberAt, wordAt, startAt, tokenAt, readAt, cursorAt, takeHeld, takeAt, hold, lookAt}
 use Rattle.tokenizer.specs.Sound.{SoundFound, SoundHeld, Sound}
 use Rattle.tokenizer.proofs.Tokens.{start-end}
-use Rattle.tokenizer.proofs.Stream.{either}
+use Rattle.lists.proofs.Cases.{either}
 
 module _ (text : List ℕ) (p : ℕ) (h : p < length text) where
   number-sound : SoundFound text (numberAt text p .found)

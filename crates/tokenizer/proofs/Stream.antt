@@ -24,11 +24,7 @@ use Rattle.tokenizer.specs.declared.Cursor.{Cursor}
 use Rattle.tokenizer.specs.Tokens.{read, endOf, afterBlank, textStart, numberOr, numberAt, wordAt, startAt, tokenAt, readAt, takeHeld, takeAt, hold, lookAt}
 use Rattle.tokenizer.specs.Stream.{Tk, open-tk, close-tk, comma-tk, none-tk, bad-tk, word-tk, number-tk, Tok, tok, Str, end, then, hd, tl, size, noneThen, cons, tkIn, tokIn, toksBy, toks, before, stream}
 use Rattle.tokenizer.proofs.Tokens.{start-end}
-
--- a choice, by cases
-pub either : {A : Type 0} (b : Bool) (Q : A → Type 0) (x y : A) → (b ≡ true → Q x) → (b ≡ false → Q y) → Q (cond b x y)
-either true Q x y f g = f refl
-either false Q x y f g = g refl
+use Rattle.lists.proofs.Cases.{either}
 
 -- a token in front of a stream is its head, and the stream its tail
 hd-none : (p : ℕ) (s : Str) → hd (noneThen p s) ≡ tok p none-tk

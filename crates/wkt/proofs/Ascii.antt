@@ -9,7 +9,7 @@ use lib.ListN.{length, getD, drop, drop-of-length-le}
 use lib.Seq.{drop-cons}
 use borrow.Author.Tests.{le-leb, lt-leb}
 use Rattle.scan.specs.Bytes.{isAscii}
-use Rattle.names.specs.Lists.{every}
+use Rattle.lists.specs.Lists.{every}
 
 module _ (w : List ℕ) (i : ℕ) where
   pub ascii-on : i < length w → getD w i 0 ≤ 127 → every isAscii (drop (i + 1) w) ≡ every isAscii (drop i w)

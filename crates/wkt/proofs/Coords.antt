@@ -9,7 +9,7 @@ use native.Mathlib.Numerals.{add-one}
 use lib.Dec.{ltb}
 use lib.ListN.{length, getD}
 use borrow.Author.Tests.{eqb-true, ltb-true}
-use Rattle.names.specs.Kinds.{width}
+use Rattle.kinds.specs.Kinds.{width}
 use Rattle.scan.specs.Bytes.{comma, isBlank}
 use Rattle.scan.specs.Runs.{firstNot}
 use Rattle.scan.proofs.Runs.{stop}

@@ -11,7 +11,7 @@ use borrow.Author.Tests.{eq-eqb, ne-eqb, lt-ltb, le-ltb}
 use Rattle.names.specs.declared.Name.{Name}
 use Rattle.names.specs.declared.Ending.{Ending}
 use Rattle.scan.specs.Bytes.{isAscii}
-use Rattle.names.specs.Lists.{every}
+use Rattle.lists.specs.Lists.{every}
 use Rattle.names.specs.Names.{meaning, ending, isEmptyWord}
 use Rattle.tokenizer.specs.declared.Refusal.{Refusal}
 use Rattle.tokenizer.specs.Tokens.{badAt}

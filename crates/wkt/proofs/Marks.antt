@@ -18,7 +18,8 @@ use Rattle.tokenizer.specs.declared.Token.the-variants.{Comma, ParenOpen, Word}
 use Rattle.tokenizer.specs.declared.Read.{Read}
 use Rattle.tokenizer.specs.Tokens.{read, endOf, afterBlank, textStart, numberOr, numberAt, wordAt, startAt, tokenAt, readAt}
 use Rattle.tokenizer.specs.Stream.{hd, tl, tkIn, tokIn, toks}
-use Rattle.tokenizer.proofs.Stream.{either, toks-step}
+use Rattle.tokenizer.proofs.Stream.{toks-step}
+use Rattle.lists.proofs.Cases.{either}
 use Rattle.number.specs.Lexeme.{isLexeme, upToStop}
 use Rattle.grammar.specs.Tokens.{sortOpen, sortClose, sortComma, tkSort, sortOf, placeOf}
 use Rattle.wkt.specs.Seen.{standsAt}

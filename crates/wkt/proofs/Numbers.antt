@@ -9,7 +9,7 @@ use lib.Dec.{eqb, ltb}
 use lib.ListN.{length, drop, length-drop}
 use lib.Seq.{length-take-le}
 use borrow.Author.Tests.{eq-eqb, ne-eqb, lt-ltb, le-ltb}
-use Rattle.names.specs.Kinds.{hasZ, hasM}
+use Rattle.kinds.specs.Kinds.{hasZ, hasM}
 use Rattle.tokenizer.specs.declared.Refusal.{Refusal}
 use Rattle.tokenizer.specs.Tokens.{badAt}
 use Rattle.tokenizer.specs.Stream.{hd, spanIn, toks}

@@ -9,7 +9,7 @@ use native.Mathlib.Numerals.{add-one}
 use lib.Dec.{eqb, ltb}
 use lib.ListN.{length, getD}
 use borrow.Author.Tests.{eqb-true, ne-eqb, lt-ltb}
-use Rattle.names.specs.Kinds.{hasZ, hasM, width}
+use Rattle.kinds.specs.Kinds.{hasZ, hasM, width}
 use Rattle.scan.specs.Bytes.{isBlank, isStop, isDigit, isSign, isPlus, isPoint, isNumberlike, plus, minus}
 use Rattle.scan.specs.Runs.{firstNot, afterOneAt}
 use Rattle.scan.proofs.Bytes.{or-elim, digit-low}

@@ -8,7 +8,7 @@ use crate::after_part;
 use crate::child_head;
 use crate::closing;
 use crate::geometry;
-use names::KIND_GEOMETRYCOLLECTION;
+use kinds::KIND_GEOMETRYCOLLECTION;
 use tokenizer::Refusal;
 ghost use Rattle.wkt.specs.Means.{Fits, Reads, collectionOf};
 

@@ -9,7 +9,7 @@ use crate::closing;
 use crate::coord::coords;
 use crate::node;
 use crate::opener;
-use names::KIND_LINESTRING;
+use kinds::KIND_LINESTRING;
 use tokenizer::Refusal;
 ghost use Prim.Native.Nat.{_<_};
 ghost use Rattle.wkt.specs.Means.{Fits, Reads, listOf, coordOf, lineInOf, lineOf};

@@ -4,9 +4,9 @@ use crate::NO_NODE_ROW;
 use crate::State;
 use crate::closing;
 use crate::polygon::lines;
-use names::KIND_MULTILINESTRING;
+use kinds::KIND_MULTILINESTRING;
 use tokenizer::Refusal;
-ghost use Rattle.names.specs.Kinds.{kindMultiLineString};
+ghost use Rattle.kinds.specs.Kinds.{kindMultiLineString};
 ghost use Rattle.wkt.specs.Means.{Fits, Reads, lineOf, openedOf};
 
 // A multi line string whose `(` was taken at `place`.

@@ -6,10 +6,10 @@ use crate::State;
 use crate::after_part;
 use crate::closing;
 use crate::point;
-use names::KIND_MULTIPOINT;
+use kinds::KIND_MULTIPOINT;
 use tokenizer::Refusal;
 ghost use Prim.Native.Nat.{_<_};
-ghost use Rattle.names.specs.Kinds.{kindMultiPoint};
+ghost use Rattle.kinds.specs.Kinds.{kindMultiPoint};
 ghost use Rattle.wkt.specs.Means.{Fits, Reads, listOf, pointOf, openedOf};
 
 // Points by commas, of the multipoint in `row`.

@@ -6,10 +6,10 @@ use crate::State;
 use crate::after_part;
 use crate::closing;
 use crate::polygon;
-use names::KIND_MULTIPOLYGON;
+use kinds::KIND_MULTIPOLYGON;
 use tokenizer::Refusal;
 ghost use Prim.Native.Nat.{_<_};
-ghost use Rattle.names.specs.Kinds.{kindMultiPolygon};
+ghost use Rattle.kinds.specs.Kinds.{kindMultiPolygon};
 ghost use Rattle.wkt.specs.Means.{Fits, Reads, listOf, polygonOf, openedOf};
 
 // Polygons by commas, of the multipolygon in `row`.

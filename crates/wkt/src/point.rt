@@ -5,7 +5,7 @@ use crate::State;
 use crate::closing;
 use crate::coord::coord;
 use crate::seen;
-use names::KIND_POINT;
+use kinds::KIND_POINT;
 use tokenizer::Refusal;
 ghost use Prim.Native.Nat.{_<_};
 ghost use Rattle.store.specs.Rows.{nodeRoom};

@@ -9,7 +9,7 @@ use crate::closing;
 use crate::linestring;
 use crate::node;
 use crate::opener;
-use names::KIND_POLYGON;
+use kinds::KIND_POLYGON;
 use tokenizer::Refusal;
 ghost use Prim.Native.Nat.{_<_};
 ghost use Rattle.wkt.specs.Means.{Fits, Reads, listOf, lineOf, polygonInOf, polygonOf};

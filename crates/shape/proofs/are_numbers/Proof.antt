@@ -6,7 +6,7 @@ use Prim.Native.Nat.{_-_, _≤_}
 use native.Mathlib.Omega.{arith}
 use borrow.Author.Needs.{needs}
 use borrow.Author.Tests.{not-true, not-false}
-use Rattle.names.specs.Lists.{every}
+use Rattle.lists.specs.Lists.{every}
 use Rattle.store.specs.Rows.{spansIn}
 use Rattle.shape.specs.Numbers.{isNumber}
 use Rattle.shape.proofs.Numbers.{numbers-none, numbers-more, numbers-fail, numbers-end}

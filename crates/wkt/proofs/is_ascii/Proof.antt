@@ -7,7 +7,7 @@ use Prim.Native.Nat.{_-_}
 use borrow.Author.Needs.{needs}
 use lib.ListN.{length, drop}
 use Rattle.scan.specs.Bytes.{isAscii}
-use Rattle.names.specs.Lists.{every}
+use Rattle.lists.specs.Lists.{every}
 use Rattle.wkt.proofs.Ascii.{ascii-on, ascii-off, ascii-end}
 
 abbrev Inv-loop : tie.InvT-loop

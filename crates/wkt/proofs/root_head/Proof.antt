@@ -5,7 +5,7 @@ use Rattle.wkt.proofs.root_head.Statement.{statement}
 use Rattle.wkt.proofs.root_head.Tie as tie
 use mathlib.Core.Path.{sym, _∙_}
 use Rattle.scan.specs.Bytes.{isAscii}
-use Rattle.names.specs.Lists.{every}
+use Rattle.lists.specs.Lists.{every}
 use Rattle.names.specs.Names.{meaning}
 use Rattle.wkt.proofs.Heads.{told-word, root-no, root-word, root-wide}
 

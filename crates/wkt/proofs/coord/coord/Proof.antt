@@ -4,7 +4,7 @@ use borrow.Author.Needs.{needs}
 use Rattle.wkt.proofs.coord.coord.Statement.{statement}
 use Rattle.wkt.proofs.coord.coord.Tie as tie
 use native.Mathlib.Omega.{arith}
-use Rattle.names.proofs.Widths.{width-few}
+use Rattle.kinds.proofs.Widths.{width-few}
 use Rattle.wkt.proofs.PlainNumbers.{kept-room, plain-coord, token-coord}
 
 width-of-requires : tie.Need-width-of-requires

@@ -7,7 +7,7 @@ use mathlib.Core.Path.{_≡_, refl, sym, _∙_}
 use Prim.Native.Nat.{_+_, _-_, _≤_}
 use native.Mathlib.Omega.{arith}
 use lib.ListN.{length}
-use Rattle.names.proofs.Widths.{width-few}
+use Rattle.kinds.proofs.Widths.{width-few}
 use Rattle.store.specs.Rows.{numberRoom}
 use Rattle.wkt.specs.Plain.{state, Coords, coord-none}
 use Rattle.wkt.proofs.PlainNumbers.{token-coord}

@@ -2,13 +2,9 @@
 -- Assumes nothing.
 use mathlib.Core.Path.{_≡_, refl, ap, _∙_}
 use mathlib.Core.Bool.{Bool, true, and-eq-true-iff}
-use mathlib.Core.List.{List, [], _∷_, _++_, List·Memᴰ, List·Memᴰ·cases-cons, List·Memᴰ·not-nil}
+use mathlib.Core.List.{List, [], _∷_, List·Memᴰ, List·Memᴰ·cases-cons, List·Memᴰ·not-nil}
 use mathlib.Core.Logic.{⊎-elim}
-use Prim.Native.Nat.{ℕ, _+_}
-use native.Mathlib.Omega.{arith}
-use lib.ListN.{length}
-use Rattle.scan.specs.Runs.{run}
-use Rattle.names.specs.Lists.{every, pairwise}
+use Rattle.lists.specs.Lists.{every, pairwise}
 
 module _ {A : Type 0} (p : A → Bool) (a : A) (l : List A) (h : every p (a ∷ l) ≡ true) where
   pub every-head : p a ≡ true
@@ -38,9 +34,3 @@ pub every-weaker : {A : Type 0} (p q : A → Bool) → ((a : A) → p a ≡ true
 unfolding every
 every-weaker p q f [] h = refl
 every-weaker p q f (a ∷ l) h = rw (f a (every-head p a l h)) (every-weaker p q f l (every-tail p a l h))
-
--- bytes that all pass a test are a run of it
-pub every-run : (p : ℕ → Bool) (l rest : List ℕ) → every p l ≡ true → run p (l ++ rest) ≡ length l + run p rest
-unfolding run
-every-run p [] rest h = omega arith
-every-run p (b ∷ l) rest h = rw (every-head p b l h) (omega (arith, every-run p l rest (every-tail p b l h)))

@@ -4,7 +4,7 @@ use mathlib.Core.Path.{_≡_}
 use mathlib.Core.Bool.{Bool, true, false, cond}
 use Prim.Native.Nat.{ℕ, _+_, _≤_}
 use native.Mathlib.Omega.{arith}
-use Rattle.names.specs.Kinds.{hasZ, hasM, width}
+use Rattle.kinds.specs.Kinds.{hasZ, hasM, width}
 
 pub width-is : (d : ℕ) {z m : Bool} → hasZ d ≡ z → hasM d ≡ m → 2 + (cond z 1 0 + cond m 1 0) ≡ width d
 unfolding width

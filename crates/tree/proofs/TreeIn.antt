@@ -8,12 +8,12 @@ use native.Mathlib.Omega.{arith}
 use lib.Dec.{eqb, leb}
 use lib.ListN.{length}
 use borrow.Author.Tests.{eq-eqb, le-leb, eqb-true, leb-true}
-use Rattle.names.specs.Kinds.{kindPoint, kindLineString, kindPolygon, kindMultiPoint, kindMultiLineString, kindMultiPolygon, kindGeometryCollection, dimXYZM, width}
+use Rattle.kinds.specs.Kinds.{kindPoint, kindLineString, kindPolygon, kindMultiPoint, kindMultiLineString, kindMultiPolygon, kindGeometryCollection, dimXYZM, width}
 use Rattle.store.specs.Rows.{Row, row}
-use Rattle.tokenizer.proofs.Stream.{either}
-use Rattle.grammar.specs.Lists.{All}
-use Rattle.grammar.specs.Tree.{Coord, Node, pointN, lineN, polygonN, multipointN, multilineN, multipolygonN, collectionN, Tree, rowsWith, noRows, pointRows, lineRows, polygonRows, nodeRows, rows, coordTexts, lineTexts, polygonTexts, nodeTexts, noTexts, texts, IsDimension, CoordShape, LineShape, PolygonShape, NodeShape, NoShape, Shape}
-use Rattle.grammar.specs.Store.{Front, ill, front, Finder, onFront, asA, findNone, times, findText, findCoord, findRow, findLine, findPolygon, exactlyOne, findPoint, atMostOne, findParts, findNode, findTree, whole, treeIn}
+use Rattle.lists.proofs.Cases.{either}
+use Rattle.lists.specs.Lists.{All}
+use Rattle.tree.specs.Tree.{Coord, Node, pointN, lineN, polygonN, multipointN, multilineN, multipolygonN, collectionN, Tree, rowsWith, noRows, pointRows, lineRows, polygonRows, nodeRows, rows, coordTexts, lineTexts, polygonTexts, nodeTexts, noTexts, texts, IsDimension, CoordShape, LineShape, PolygonShape, NodeShape, NoShape, Shape}
+use Rattle.tree.specs.TreeIn.{Front, ill, front, Finder, onFront, asA, findNone, times, findText, findCoord, findRow, findLine, findPolygon, exactlyOne, findPoint, atMostOne, findParts, findNode, findTree, whole, treeIn}
 
 abbrev Texts : Type 0
 Texts = List (List ℕ)

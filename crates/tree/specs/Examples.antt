@@ -1,17 +1,16 @@
--- Worked examples of trees and their canonical texts, by computation.
+-- Worked examples of this crate's definitions, by computation.
 use mathlib.Core.Path.{_≡_, refl}
 use mathlib.Core.Option.{none, some}
 use mathlib.Core.List.{List, [], _∷_, flatMap}
 use Prim.Native.Nat.{ℕ}
 use Rattle.scan.specs.Text.{bytes}
-use Rattle.scan.specs.Front.{begins}
-use Rattle.names.specs.Kinds.{kindPoint, kindLineString, kindPolygon, kindMultiPoint, kindGeometryCollection, dimXY, dimXYZ, width}
+use Rattle.kinds.specs.Kinds.{kindPoint, kindLineString, kindPolygon, kindMultiPoint, kindGeometryCollection, dimXY, dimXYZ, width}
 use Rattle.store.specs.Rows.{row}
-use Rattle.grammar.specs.Tree.{rowsWith, spell, each, separated, putParts, putNamed, putDimension, stringOf, putWith, multipointN, collectionN, rows, texts}
-use Rattle.grammar.specs.Store.{onFront, asA, times, findText, findRow, exactlyOne, atMostOne, findParts, findNode, whole, treeIn, canonical}
+use Rattle.tree.specs.Tree.{rowsWith, multipointN, collectionN, rows, texts}
+use Rattle.tree.specs.TreeIn.{onFront, asA, times, findText, findRow, exactlyOne, atMostOne, findParts, findNode, whole, treeIn}
 
 all : ℕ
-unfolding flatMap begins rowsWith spell each separated putParts putNamed putDimension stringOf putWith width onFront asA times findText findRow exactlyOne atMostOne findParts findNode whole
+unfolding flatMap rowsWith width onFront asA times findText findRow exactlyOne atMostOne findParts findNode whole
 all = 0
 
 abbrev one : List ℕ
@@ -45,10 +44,3 @@ deep : (treeIn 1 (row kindGeometryCollection dimXY 1 ∷ row kindGeometryCollect
     × (treeIn 1 (row kindGeometryCollection dimXY 1 ∷ row kindGeometryCollection dimXY 0 ∷ []) [] ≡ some (collectionN dimXY (collectionN dimXY [] ∷ [])))
 unfolding all
 deep = (refl, refl)
-
--- "`POINT(++4 +-4)`: [..] written `POINT(++4 -4)`"; letters get a `+`; empty parts; a dimension
-written : (canonical (row kindPoint dimXY 1 ∷ []) (bytes "+4" ∷ bytes "-4" ∷ []) ≡ some (bytes "POINT(++4 -4)"))
-    × (canonical (row kindLineString dimXYZ 1 ∷ []) (bytes "nan" ∷ bytes "-inf" ∷ bytes ".5" ∷ []) ≡ some (bytes "LINESTRING Z(+nan -inf .5)"))
-    × (canonical (row kindGeometryCollection dimXYZ 2 ∷ row kindPolygon dimXY 2 ∷ row kindLineString dimXY 0 ∷ row kindLineString dimXY 2 ∷ row kindPoint dimXYZ 0 ∷ []) (one ∷ two ∷ one ∷ four ∷ []) ≡ some (bytes "GEOMETRYCOLLECTION Z(POLYGON(EMPTY,(1 2,1 4)),POINT Z EMPTY)"))
-unfolding all
-written = (refl, refl, refl)

@@ -1,16 +1,26 @@
 -- The store as a tree (document 01, "The store"): the one tree that node rows and number texts are, found from the front.
 use mathlib.Core.Path.{_≡_}
-use mathlib.Core.Bool.{cond}
+use mathlib.Core.Bool.{true, cond}
 use mathlib.Core.Option.{Option, none, some}
 use mathlib.Core.List.{List, [], _∷_, map}
-use Prim.Native.Nat.{ℕ, zero, suc}
+use Prim.Native.Nat.{ℕ, zero, suc, _+_, _≤_}
 use lib.Dec.{eqb, leb}
+use lib.ListN.{length, take, drop}
 use Rattle.limits.specs.Limits.{depthLimit}
-use Rattle.names.specs.Kinds.{kindPoint, kindLineString, kindPolygon, kindMultiPoint, kindMultiLineString, kindMultiPolygon, kindGeometryCollection, dimXYZM, width}
+use Rattle.kinds.specs.Kinds.{kindPoint, kindLineString, kindPolygon, kindMultiPoint, kindMultiLineString, kindMultiPolygon, kindGeometryCollection, dimXYZM, width}
+use Rattle.number.specs.Lexeme.{isLexeme}
 use Rattle.store.specs.Rows.{Row, row, Span, span}
-use Rattle.grammar.specs.Lists.{All}
-use Rattle.grammar.specs.Answers.{SpanIn}
-use Rattle.grammar.specs.Tree.{Coord, Node, pointN, lineN, polygonN, multipointN, multilineN, multipolygonN, collectionN, Tree, put}
+use Rattle.lists.specs.Lists.{All}
+use Rattle.tree.specs.Tree.{Coord, Node, pointN, lineN, polygonN, multipointN, multilineN, multipolygonN, collectionN, Tree}
+
+-- "each lies in its text and is a lexeme": a number row's start, length and bytes
+pub record NumberIn (text : List ℕ) (start len : ℕ) (x : List ℕ) : Type 0 where
+  pub inside : start + len ≤ length text
+  pub bytes : take len (drop start text) ≡ x
+  pub lexeme : isLexeme x ≡ true
+
+abbrev pub SpanIn : List ℕ → Span → Type 0
+SpanIn text (span start len x) = NumberIn text start len x
 
 -- the bytes of a number row
 abbrev pub spanText : Span → List ℕ
@@ -109,11 +119,3 @@ pub record WellFormed (text : List ℕ) (rs : List Row) (ss : List Span) : Type 
   pub tree : Tree depthLimit
   pub is : treeIn depthLimit rs (spanTexts ss) ≡ some tree
   pub numbers : All (SpanIn text) ss
-
-abbrev pub textOfTree : (d : ℕ) → Option (Tree d) → Option (List ℕ)
-textOfTree d none = none
-textOfTree d (some t) = some (put d t [])
-
--- the canonical text of node rows and number texts, if they are a tree
-abbrev pub canonical : List Row → List (List ℕ) → Option (List ℕ)
-canonical rs ns = textOfTree depthLimit (treeIn depthLimit rs ns)

@@ -1,4 +1,4 @@
--- Tests over whole lists.
+-- Tests of each entry of a list, and statements about each.
 use mathlib.Core.Bool.{Bool, true, _&&_}
 use mathlib.Core.List.{List, [], _∷_}
 
@@ -11,3 +11,8 @@ every p (a ∷ l) = p a && every p l
 unfoldable pub pairwise : {A : Type 0} → (A → A → Bool) → List A → Bool
 pairwise p [] = true
 pairwise p (a ∷ l) = every (p a) l && pairwise p l
+
+-- each entry is as Q says
+unfoldable pub All : {A : Type 0} → (A → Type 0) → List A → Type 0
+All Q [] = Unit {0}
+All Q (x ∷ xs) = Q x × All Q xs

@@ -1,10 +1,10 @@
--- `names::width_of` meets its contract.
+-- `kinds::width_of` meets its contract.
 -- Assumes nothing.
 use borrow.Author.Needs.{needs}
-use Rattle.names.proofs.width_of.Statement.{statement}
-use Rattle.names.proofs.width_of.Tie as tie
+use Rattle.kinds.proofs.width_of.Statement.{statement}
+use Rattle.kinds.proofs.width_of.Tie as tie
 use mathlib.Core.Path.{sym, _∙_}
-use Rattle.names.proofs.Widths.{width-is}
+use Rattle.kinds.proofs.Widths.{width-is}
 
 has-z-requires : tie.Need-has-z-requires
 has-z-requires c κs = search needs
