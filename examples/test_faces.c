@@ -103,9 +103,22 @@ static void test_refusals(void)
     expect(is(answer, DOORHOLLOW_NO_ROOT, 0, 0, 0), "read: nothing at all");
     memset(longer, ' ', sizeof longer);
     doorhollow_read(longer, sizeof longer, nodes, 6, numbers, 5, answer);
-    expect(is(answer, DOORHOLLOW_TOO_LONG, DOORHOLLOW_TEXT_LIMIT, 0, 0), "read: too long");
+    expect(is(answer, DOORHOLLOW_TEXT_TOO_LONG, DOORHOLLOW_TEXT_LIMIT, 0, 0), "read: too long");
     doorhollow_read(longer, sizeof longer - 1, nodes, 6, numbers, 5, answer);
     expect(is(answer, DOORHOLLOW_NO_ROOT, DOORHOLLOW_TEXT_LIMIT, 0, 0), "read: blanks only");
+}
+
+/* How many rows are enough, and a text of 27 bytes that is lent so many. */
+static void test_rooms(void)
+{
+    const char *text = "MULTIPOINT(1 2,3 4,5 6,7 8)";
+    uint32_t nodes[13 * DOORHOLLOW_NODE_WIDTH], numbers[13 * DOORHOLLOW_NUMBER_WIDTH];
+    uint64_t answer[DOORHOLLOW_ANSWER_PLACES];
+
+    expect(doorhollow_enough_rows(0) == 0 && doorhollow_enough_rows(27) == 13, "enough_rows: half of them");
+    expect(doorhollow_enough_rows(DOORHOLLOW_TEXT_LIMIT) == 32767, "enough_rows: of the longest text");
+    doorhollow_read(bytes(text), strlen(text), nodes, 13 * DOORHOLLOW_NODE_WIDTH, numbers, 13 * DOORHOLLOW_NUMBER_WIDTH, answer);
+    expect(is(answer, DOORHOLLOW_OK, 0, 5, 8), "read: with enough rows");
 }
 
 static void test_strict(void)
@@ -136,6 +149,7 @@ int main(void)
 {
     test_store();
     test_refusals();
+    test_rooms();
     test_strict();
     test_infer_type();
     return failures > 0;

@@ -12,8 +12,8 @@
 
 #include "doorhollow.h"
 
-/* Half as many rows as a text may have bytes are enough for every text. */
-#define ROWS (DOORHOLLOW_TEXT_LIMIT / 2)
+/* As many rows as doorhollow_enough_rows says of the most bytes that are read. */
+#define ROWS ((DOORHOLLOW_TEXT_LIMIT + 1) / 2)
 #define THIRD 2
 
 /* One byte more than a text may have, so that a longer one is refused. */
@@ -100,14 +100,15 @@ int main(void)
 {
     uint64_t answer[DOORHOLLOW_ANSWER_PLACES];
     size_t length = fread(text, 1, sizeof text, stdin);
+    size_t rows = doorhollow_enough_rows(length);
     size_t row = 1;
     size_t number = 0;
     int part;
 
     if (ferror(stdin))
         return fail("standard input can't be read");
-    doorhollow_read(text, length, nodes, sizeof nodes / sizeof *nodes,
-                    numbers, sizeof numbers / sizeof *numbers, answer);
+    doorhollow_read(text, length, nodes, rows * DOORHOLLOW_NODE_WIDTH,
+                    numbers, rows * DOORHOLLOW_NUMBER_WIDTH, answer);
     if (answer[DOORHOLLOW_NUMBER] != DOORHOLLOW_OK) {
         fprintf(stderr, "third_part: refused %lu at byte %lu\n",
                 (unsigned long)answer[DOORHOLLOW_NUMBER],

@@ -71,39 +71,46 @@ extern "C" {
 #define DOORHOLLOW_XYM 2
 #define DOORHOLLOW_XYZM 3
 
-/* The refusals. Those of the Rust crate wkt have its message beside them. */
+/* The refusals. Beside each stands its message, for 6 to 21 that of the Rust crate wkt; 19 names the prefix after it. */
 #define DOORHOLLOW_OK 0
-#define DOORHOLLOW_TOO_LONG 1            /* more than DOORHOLLOW_TEXT_LIMIT bytes */
-#define DOORHOLLOW_ILL_FORMED_UTF8 2     /* place: where no whole character starts */
-#define DOORHOLLOW_NO_NODE_ROW 3         /* a node needs a row and none is free */
-#define DOORHOLLOW_NO_NUMBER_ROW 4       /* a number needs a row and none is free */
-#define DOORHOLLOW_TOO_DEEP 5            /* one collection more than DOORHOLLOW_DEPTH_LIMIT */
-#define DOORHOLLOW_BAD_NUMBER 6          /* Unable to parse input number as the desired output type */
-#define DOORHOLLOW_NON_ASCII_ROOT 7      /* Encountered non-ascii word */
-#define DOORHOLLOW_NO_ROOT 8             /* Invalid WKT format */
-#define DOORHOLLOW_UNKNOWN_NAME 9        /* Invalid type encountered */
-#define DOORHOLLOW_NO_HEADER 10          /* End of stream */
-#define DOORHOLLOW_UNKNOWN_HEADER 11     /* Unexpected word before open paren */
-#define DOORHOLLOW_NOT_OPENED 12         /* Missing open parenthesis for type */
-#define DOORHOLLOW_NOT_CLOSED 13         /* Missing closing parenthesis for type */
-#define DOORHOLLOW_NO_X 14               /* Expected a number for the X coordinate */
-#define DOORHOLLOW_NO_Y 15               /* Expected a number for the Y coordinate */
-#define DOORHOLLOW_NO_Z 16               /* Expected a number for the Z coordinate */
-#define DOORHOLLOW_NO_M 17               /* Expected a number for the M coordinate */
-#define DOORHOLLOW_NO_CHILD 18           /* Expected a word in GEOMETRYCOLLECTION */
-#define DOORHOLLOW_UNSUPPORTED_NAME 19   /* Unsupported WKT prefix, and the prefix */
+/* tools/refusals: from here on */
+#define DOORHOLLOW_TEXT_TOO_LONG 1 /* The text has more than 65,535 bytes */
+#define DOORHOLLOW_ILL_FORMED_UTF8 2 /* The text is not well-formed UTF-8 */
+#define DOORHOLLOW_NO_NODE_ROW 3 /* No room for another node */
+#define DOORHOLLOW_NO_NUMBER_ROW 4 /* No room for another number */
+#define DOORHOLLOW_TOO_DEEP 5 /* More than 32 collections are open */
+#define DOORHOLLOW_BAD_NUMBER 6 /* Unable to parse input number as the desired output type */
+#define DOORHOLLOW_NON_ASCII_ROOT 7 /* Encountered non-ascii word */
+#define DOORHOLLOW_NO_ROOT 8 /* Invalid WKT format */
+#define DOORHOLLOW_UNKNOWN_NAME 9 /* Invalid type encountered */
+#define DOORHOLLOW_NO_HEADER 10 /* End of stream */
+#define DOORHOLLOW_UNKNOWN_HEADER 11 /* Unexpected word before open paren */
+#define DOORHOLLOW_NOT_OPENED 12 /* Missing open parenthesis for type */
+#define DOORHOLLOW_NOT_CLOSED 13 /* Missing closing parenthesis for type */
+#define DOORHOLLOW_NO_X 14 /* Expected a number for the X coordinate */
+#define DOORHOLLOW_NO_Y 15 /* Expected a number for the Y coordinate */
+#define DOORHOLLOW_NO_Z 16 /* Expected a number for the Z coordinate */
+#define DOORHOLLOW_NO_M 17 /* Expected a number for the M coordinate */
+#define DOORHOLLOW_NO_CHILD 18 /* Expected a word in GEOMETRYCOLLECTION */
+#define DOORHOLLOW_UNSUPPORTED_NAME 19 /* Unsupported WKT prefix */
 #define DOORHOLLOW_EMPTY_WITHOUT_SPACE 20 /* Invalid WKT; no whitespace between geometry type and EMPTY. */
 #define DOORHOLLOW_NEITHER_PAREN_NOR_EMPTY 21 /* Invalid WKT; no '(' character and not EMPTY */
-#define DOORHOLLOW_ILL_FORMED_STORE 22   /* write, strict: the rows aren't a well-formed store */
-#define DOORHOLLOW_NO_ROOM 23            /* write: the canonical text is longer than the room */
-#define DOORHOLLOW_NON_ASCII 24          /* infer_type: a byte that isn't ASCII in the part looked at */
+#define DOORHOLLOW_ILL_FORMED_STORE 22 /* The rows are not a well-formed store */
+#define DOORHOLLOW_NO_ROOM 23 /* The canonical text is longer than the room */
+#define DOORHOLLOW_NON_ASCII 24 /* The part that names the type is not ASCII */
+/* tools/refusals: up to here */
+
+/*
+ * How many rows are enough for a text of so many bytes: half as many. Lend
+ * doorhollow_read that many node rows and that many number rows, and it never
+ * answers 3 or 4. That is proved.
+ */
+size_t doorhollow_enough_rows(size_t text_length);
 
 /*
  * Reads the geometry that a text begins with into rows of both slices. The
- * room is node_places / 3 node rows and number_places / 2 number rows. Of
- * either, half as many rows as the text has bytes should be enough, as a row
- * takes two bytes of text or more. That isn't proved: a text that needed more
- * would be refused 3 or 4.
+ * room is node_places / 3 node rows and number_places / 2 number rows;
+ * doorhollow_enough_rows says how many are enough.
  *
  * answer: number, place, count of node rows, count of number rows.
  * Every place of both slices after the used rows is 0, and after a refusal

@@ -22,6 +22,8 @@ pub enum Work {
     Utf8,
     /// The proved writer, into a room that the canonical text fits exactly.
     Write,
+    /// The proved writer without room: it checks the whole store, puts nothing, and answers 23.
+    Check,
     /// The Rust's reader. Its tree is freed, and that counts.
     Rust,
     /// The standard library's UTF-8 check, which a `str` has behind it.
@@ -30,11 +32,12 @@ pub enum Work {
     RustDoubles,
 }
 
-pub const WORKS: [Work; 7] = [
+pub const WORKS: [Work; 8] = [
     Work::Exact,
     Work::Ample,
     Work::Utf8,
     Work::Write,
+    Work::Check,
     Work::Rust,
     Work::RustUtf8,
     Work::RustDoubles,
@@ -47,6 +50,7 @@ impl Work {
             Work::Ample => "ample",
             Work::Utf8 => "utf8",
             Work::Write => "write",
+            Work::Check => "check",
             Work::Rust => "rust",
             Work::RustUtf8 => "rust-utf8",
             Work::RustDoubles => "rust-doubles",
@@ -57,16 +61,16 @@ impl Work {
         WORKS.into_iter().find(|work| work.name() == name)
     }
 
-    /// A refused text has nothing to write.
+    /// A refused text has nothing to write or to check.
     pub fn applies_to(self, sample: &Sample) -> bool {
-        self != Work::Write || sample.is_accepted()
+        !matches!(self, Work::Write | Work::Check) || sample.is_accepted()
     }
 
-    /// The bytes that an amount is divided by: those written by the writer, else those
-    /// read.
+    /// The bytes that an amount is divided by: those of the canonical text for the writer
+    /// and its check, else those read.
     pub fn bytes_of(self, sample: &Sample) -> usize {
         match self {
-            Work::Write => sample.canonical.len(),
+            Work::Write | Work::Check => sample.canonical.len(),
             _ => sample.text.len(),
         }
     }
@@ -95,7 +99,7 @@ impl<'a> Job<'a> {
             nodes,
             numbers,
             number_texts: sample.number_texts(),
-            out: sample.canonical.clone(),
+            out: room_lent(work, sample),
             expected: expected_number(work, sample),
         }
     }
@@ -118,9 +122,16 @@ impl<'a> Job<'a> {
 
 fn rows_lent(work: Work, sample: &Sample) -> (Vec<u32>, Vec<u32>) {
     match work {
-        Work::Exact | Work::Write => (sample.nodes.clone(), sample.numbers.clone()),
+        Work::Exact | Work::Write | Work::Check => (sample.nodes.clone(), sample.numbers.clone()),
         Work::Ample => (vec![1; AMPLE_NODES], vec![1; AMPLE_NUMBERS]),
         _ => (Vec::new(), Vec::new()),
+    }
+}
+
+fn room_lent(work: Work, sample: &Sample) -> Vec<u8> {
+    match work {
+        Work::Check => Vec::new(),
+        _ => sample.canonical.clone(),
     }
 }
 
@@ -137,6 +148,7 @@ fn expected_number(work: Work, sample: &Sample) -> u64 {
     match work {
         Work::Exact | Work::Ample => sample.answer.number,
         Work::Utf8 => 2,
+        Work::Check => 23,
         Work::Rust => u64::from(!sample.is_accepted()),
         Work::Write | Work::RustUtf8 | Work::RustDoubles => 0,
     }
@@ -149,7 +161,9 @@ fn measured(job: &mut Job) -> u64 {
         Work::Exact | Work::Ample | Work::Utf8 => {
             library::read(&job.bytes, &mut job.nodes, &mut job.numbers).number
         }
-        Work::Write => library::write(&job.bytes, &job.nodes, &job.numbers, &mut job.out).number,
+        Work::Write | Work::Check => {
+            library::write(&job.bytes, &job.nodes, &job.numbers, &mut job.out).number
+        }
         Work::Rust => u64::from(Wkt::<f64>::from_str(job.text).is_err()),
         Work::RustUtf8 => u64::from(std::str::from_utf8(&job.bytes).is_err()),
         Work::RustDoubles => {

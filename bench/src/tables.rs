@@ -114,6 +114,7 @@ fn print_shares(samples: &[Sample], counter: &mut Counter) -> Result<(), String>
         "`f64`s alone, in the Rust's reading",
         "of Rust",
         "writing, per byte written",
+        "its check alone",
     ]);
     for sample in samples {
         row(&shares_row(sample, counter)?);
@@ -121,8 +122,8 @@ fn print_shares(samples: &[Sample], counter: &mut Counter) -> Result<(), String>
     Ok(())
 }
 
-fn shares_row(sample: &Sample, counter: &mut Counter) -> Result<[String; 7], String> {
-    let mut count = |work| counter.instructions(work, sample);
+fn shares_row(sample: &Sample, counter: &mut Counter) -> Result<[String; 8], String> {
+    let mut count = |work: Work| counter.instructions(work, sample);
     let [utf8, doubles] = [count(Work::Utf8)?, count(Work::RustDoubles)?];
     Ok([
         sample.kind.name().to_string(),
@@ -131,11 +132,21 @@ fn shares_row(sample: &Sample, counter: &mut Counter) -> Result<[String; 7], Str
         amount(count(Work::RustUtf8)?),
         amount(doubles),
         share(doubles / count(Work::Rust)?),
-        match Work::Write.applies_to(sample) {
-            true => amount(count(Work::Write)?),
-            false => NOTHING.to_string(),
-        },
+        of_writing(Work::Write, sample, &mut count)?,
+        of_writing(Work::Check, sample, &mut count)?,
     ])
+}
+
+/// An amount of the writer, where there is something to write.
+fn of_writing(
+    work: Work,
+    sample: &Sample,
+    count: &mut impl FnMut(Work) -> Result<f64, String>,
+) -> Result<String, String> {
+    match work.applies_to(sample) {
+        true => Ok(amount(count(work)?)),
+        false => Ok(NOTHING.to_string()),
+    }
 }
 
 /// The times of the reading and the writing.

@@ -12,6 +12,8 @@ const ANSWER_PLACES: usize = 4;
 type Answer = [u64; ANSWER_PLACES];
 
 extern "C" {
+    fn doorhollow_enough_rows(text_length: usize) -> usize;
+
     fn doorhollow_read(
         text: *const u8,
         text_length: usize,
@@ -56,6 +58,13 @@ fn accepted(answer: Answer) -> Result<Answer, Refusal> {
             place: answer[1] as usize,
         }),
     }
+}
+
+/// How many node rows, and how many number rows, are enough for a text of so many bytes. It is proved that `read_into`
+/// with that much room answers neither 3 nor 4.
+pub fn enough_rows(text_length: usize) -> usize {
+    // SAFETY: a number goes in, and a number comes out.
+    unsafe { doorhollow_enough_rows(text_length) }
 }
 
 /// The counts of the used rows.

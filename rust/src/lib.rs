@@ -17,9 +17,10 @@
 mod calls;
 mod explain;
 mod refusal;
+pub mod refusals;
 mod tree;
 
-pub use calls::{strict_rows, write_rows, NODE_WIDTH, NUMBER_WIDTH};
+pub use calls::{enough_rows, strict_rows, write_rows, NODE_WIDTH, NUMBER_WIDTH};
 pub use refusal::Refusal;
 pub use tree::{Children, Coordinate, Coordinates, Node, Tree, Walk};
 
@@ -137,10 +138,9 @@ impl std::error::Error for Fault {}
 /// Reads the geometry that a text begins with. What follows it is unread.
 pub fn read<T: AsRef<[u8]> + ?Sized>(text: &T) -> Result<Tree<'_>, Refusal> {
     let text = text.as_ref();
-    // Half as many rows as a text has bytes should be enough, as a row takes two bytes of text or more. That isn't
-    // proved: a text that needed more would be refused 3 or 4. A text over the limit is refused without any.
+    // A text over the limit is refused without any row.
     let rows = if text.len() <= TEXT_LIMIT {
-        text.len() / 2
+        enough_rows(text.len())
     } else {
         0
     };
@@ -153,7 +153,7 @@ pub fn read<T: AsRef<[u8]> + ?Sized>(text: &T) -> Result<Tree<'_>, Refusal> {
 }
 
 /// Reads into rows that the caller lends, and allocates nothing: `nodes` has room for a third as many nodes as it is
-/// long, `numbers` for half as many numbers. Every place after the used rows is zero, and after a refusal every place.
+/// long, `numbers` for half as many numbers; [`enough_rows`] says how many are enough. Every place after the used rows is zero, and after a refusal every place.
 pub fn read_into<'a, T: AsRef<[u8]> + ?Sized>(
     text: &'a T,
     nodes: &'a mut [u32],

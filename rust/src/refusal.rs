@@ -1,10 +1,11 @@
 //! Refusals: a number and a place, with the message of the crate wkt.
+use crate::refusals;
 use std::fmt;
 
 /// Why a text was refused, and where.
 #[derive(Clone, Copy, Debug, PartialEq, Eq, Hash)]
 pub struct Refusal {
-    /// 1 to 24; the README has the table.
+    /// 1 to 24; [`refusals`](crate::refusals) has their names.
     pub number: u32,
     /// A byte of the text, or its length.
     pub place: usize,
@@ -14,38 +15,12 @@ impl Refusal {
     /// The message: for 6 to 18, 20 and 21 that of the crate wkt, for 19 its beginning, as it ends with a part of
     /// the text (see [`message_in`](Refusal::message_in)). The others have no message there.
     pub fn message(&self) -> &'static str {
-        match self.number {
-            1 => "The text has more than 65,535 bytes",
-            2 => "The text is not well-formed UTF-8",
-            3 => "No room for another node",
-            4 => "No room for another number",
-            5 => "More than 32 collections are open",
-            6 => "Unable to parse input number as the desired output type",
-            7 => "Encountered non-ascii word",
-            8 => "Invalid WKT format",
-            9 => "Invalid type encountered",
-            10 => "End of stream",
-            11 => "Unexpected word before open paren",
-            12 => "Missing open parenthesis for type",
-            13 => "Missing closing parenthesis for type",
-            14 => "Expected a number for the X coordinate",
-            15 => "Expected a number for the Y coordinate",
-            16 => "Expected a number for the Z coordinate",
-            17 => "Expected a number for the M coordinate",
-            18 => "Expected a word in GEOMETRYCOLLECTION",
-            19 => "Unsupported WKT prefix",
-            20 => "Invalid WKT; no whitespace between geometry type and EMPTY.",
-            21 => "Invalid WKT; no '(' character and not EMPTY",
-            22 => "The rows are not a well-formed store",
-            23 => "The canonical text is longer than the room",
-            24 => "The part that names the type is not ASCII",
-            _ => "Unknown refusal",
-        }
+        refusals::message(self.number)
     }
 
     /// The whole message about a text, with the prefix that 19 names.
     pub fn message_in<T: AsRef<[u8]> + ?Sized>(&self, text: &T) -> String {
-        if self.number != 19 {
+        if self.number != refusals::UNSUPPORTED_NAME {
             return self.message().to_string();
         }
         let text = text.as_ref();

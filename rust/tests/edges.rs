@@ -1,5 +1,7 @@
 //! The edges of document 01, asked of the real library.
-use doorhollow::{infer_type, read, read_into, Dimension, Kind, Refusal};
+use doorhollow::{
+    enough_rows, infer_type, read, read_into, Dimension, Kind, Refusal, NODE_WIDTH, NUMBER_WIDTH,
+};
 
 fn refused<T>(answer: Result<T, Refusal>) -> (u32, usize) {
     let refusal = answer.err().expect("refused");
@@ -79,6 +81,29 @@ fn rooms() {
         (tree.node_rows(), tree.number_rows()),
         (&[1, 0, 1][..], &[6, 1, 8, 1][..])
     );
+}
+
+#[test]
+fn enough_rows_are_half_the_bytes_and_suffice() {
+    assert_eq!(
+        (enough_rows(0), enough_rows(1), enough_rows(65_535)),
+        (0, 0, 32_767)
+    );
+    // a short text, one that is a number in every second byte, and one that is refused
+    let mut dense = String::from("LINESTRING(");
+    dense.push_str(&["1 1"; 1_000].join(","));
+    dense.push(')');
+    for text in ["POINT(1 2)", &dense, "GEOMETRYCOLLECTION((((((((((((((("] {
+        let rows = enough_rows(text.len());
+        let mut nodes = vec![0; rows * NODE_WIDTH];
+        let mut numbers = vec![0; rows * NUMBER_WIDTH];
+        if let Err(refusal) = read_into(text, &mut nodes, &mut numbers) {
+            assert!(
+                refusal.number != 3 && refusal.number != 4,
+                "{text:?}: {refusal:?}"
+            );
+        }
+    }
 }
 
 #[test]

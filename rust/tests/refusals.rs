@@ -113,27 +113,3 @@ fn the_program_explain_says_the_same() {
     let expected = std::fs::read_to_string(format!("{folder}/stdout")).unwrap();
     assert_eq!(explained(text), expected);
 }
-
-#[test]
-fn the_program_has_the_same_messages() {
-    let source = concat!(
-        env!("CARGO_MANIFEST_DIR"),
-        "/../crates/explain/src/messages.rt"
-    );
-    let source = std::fs::read_to_string(source).unwrap();
-    let table: Vec<&str> = source
-        .lines()
-        .filter_map(|line| line.split_once("\\n").map(|(text, _)| text.trim()))
-        .collect();
-    assert_eq!(table.len(), 19);
-    for number in 1..=18 {
-        assert_eq!(
-            table[number],
-            Refusal {
-                number: number as u32,
-                place: 0
-            }
-            .message()
-        );
-    }
-}

@@ -1,6 +1,5 @@
 -- The canonical text of a tree (document 01, "Canonical text").
 use mathlib.Core.Bool.{Bool, cond, _||_}
-use mathlib.Core.Option.{Option, none, some}
 use mathlib.Core.List.{List, [], _∷_, _++_}
 use Prim.Native.Nat.{ℕ, zero, suc}
 use lib.Dec.{eqb}
@@ -11,9 +10,7 @@ use Rattle.kinds.specs.Kinds.{kindPoint, kindLineString, kindPolygon, kindMulti
 use Rattle.names.specs.Letters.{isLetter}
 use Rattle.names.specs.Names.{names, endings}
 use Rattle.names.specs.Strings.{empty}
-use Rattle.store.specs.Rows.{Row}
 use Rattle.tree.specs.Tree.{Coord, Node, pointN, lineN, polygonN, multipointN, multilineN, multipolygonN, collectionN, Tree}
-use Rattle.tree.specs.TreeIn.{treeIn}
 
 -- each definition named put.. puts its bytes in front of what follows, r
 -- "A number text beginning with `+` or a letter gets one more `+` in front."
@@ -23,8 +20,8 @@ needsPlus b = isPlus b || isLetter b
 unfoldable pub spell : List ℕ → List ℕ
 spell x = cond (begins needsPlus x) (plus ∷ x) x
 
-abbrev pub putNumber : List ℕ → List ℕ → List ℕ
-putNumber x r = spell x ++ r
+abbrev pub putSpelled : List ℕ → List ℕ → List ℕ
+putSpelled x r = spell x ++ r
 
 -- each with the byte s in front
 unfoldable pub each : {X : Type 0} → ℕ → (X → List ℕ → List ℕ) → List X → List ℕ → List ℕ
@@ -38,7 +35,7 @@ separated s f (x ∷ xs) r = f x (each s f xs r)
 
 -- "Numbers are separated by one space."
 abbrev pub putCoord : Coord → List ℕ → List ℕ
-putCoord c r = separated space putNumber c r
+putCoord c r = separated space putSpelled c r
 
 -- "the parts in parentheses with `,` between and no blank"
 abbrev pub inParens : {X : Type 0} → (X → List ℕ → List ℕ) → List X → List ℕ → List ℕ
@@ -77,26 +74,22 @@ putLine cs r = putParts putCoord cs r
 abbrev pub putPolygon : List (List Coord) → List ℕ → List ℕ
 putPolygon ls r = putParts putLine ls r
 
-abbrev pub putNode : {X : Type 0} → (X → List ℕ → List ℕ) → Node X → List ℕ → List ℕ
-putNode f (pointN d cs) r = putWith kindPoint d putCoord cs r
-putNode f (lineN d cs) r = putWith kindLineString d putCoord cs r
-putNode f (polygonN d ls) r = putWith kindPolygon d putLine ls r
-putNode f (multipointN d cs) r = putWith kindMultiPoint d putPoint cs r
-putNode f (multilineN d ls) r = putWith kindMultiLineString d putLine ls r
-putNode f (multipolygonN d ps) r = putWith kindMultiPolygon d putPolygon ps r
-putNode f (collectionN d ts) r = putWith kindGeometryCollection d f ts r
+abbrev pub putGeometry : {X : Type 0} → (X → List ℕ → List ℕ) → Node X → List ℕ → List ℕ
+putGeometry f (pointN d cs) r = putWith kindPoint d putCoord cs r
+putGeometry f (lineN d cs) r = putWith kindLineString d putCoord cs r
+putGeometry f (polygonN d ls) r = putWith kindPolygon d putLine ls r
+putGeometry f (multipointN d cs) r = putWith kindMultiPoint d putPoint cs r
+putGeometry f (multilineN d ls) r = putWith kindMultiLineString d putLine ls r
+putGeometry f (multipolygonN d ps) r = putWith kindMultiPolygon d putPolygon ps r
+putGeometry f (collectionN d ts) r = putWith kindGeometryCollection d f ts r
 
 abbrev pub putNothing : {X : Type 0} → X → List ℕ → List ℕ
 putNothing x r = r
 
-abbrev pub put : (d : ℕ) → Tree d → List ℕ → List ℕ
-put zero t r = putNode putNothing t r
-put (suc d) t r = putNode (put d) t r
+abbrev pub putTree : (d : ℕ) → Tree d → List ℕ → List ℕ
+putTree zero t r = putGeometry putNothing t r
+putTree (suc d) t r = putGeometry (putTree d) t r
 
-abbrev pub textOfTree : (d : ℕ) → Option (Tree d) → Option (List ℕ)
-textOfTree d none = none
-textOfTree d (some t) = some (put d t [])
-
--- the canonical text of node rows and number texts, if they are a tree
-abbrev pub canonical : List Row → List (List ℕ) → Option (List ℕ)
-canonical rs ns = textOfTree depthLimit (treeIn depthLimit rs ns)
+-- the canonical text of a whole tree: what the writer writes, and what the reader reads back
+abbrev pub canonicalText : Tree depthLimit → List ℕ
+canonicalText t = putTree depthLimit t []

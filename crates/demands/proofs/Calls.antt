@@ -2,23 +2,29 @@
 -- Assumes nothing.
 use mathlib.Core.Path.{_≡_, refl, ap, sym, _∙_}
 use mathlib.Core.Bool.{true, false≢true}
+use mathlib.Core.Option.{some}
 use mathlib.Core.List.{List}
-use Prim.Native.Nat.{ℕ}
+use Prim.Native.Nat.{ℕ, _≤_}
+use borrow.Author.Tests.{le-leb}
 use lib.ListN.{length}
-use Rattle.store.specs.Rows.{Row, Span, nodeRoom, numberRoom, flatRows, flatSpans}
+use Rattle.store.specs.Rows.{Row, Span, nodeRoom, numberRoom, flatRows, flatSpans, padded}
 use Rattle.lists.specs.Lists.{All}
-use Rattle.tree.specs.TreeIn.{SpanIn}
+use Rattle.limits.specs.Limits.{depthLimit}
+use Rattle.tree.specs.Tree.{Tree}
+use Rattle.tree.specs.TreeIn.{SpanIn, spanTexts, treeIn}
 use Rattle.grammar.specs.Grammar.{out, Got, ok, refused, halt}
-use Rattle.grammar.specs.Whole.{reading}
+use Rattle.grammar.specs.Reading.{reading}
 use Rattle.grammar.proofs.WellRead.{reading-well-formed}
 use Rattle.grammar.proofs.Fuel.{reading-refusals, reading-halts, reading-kept}
 use Rattle.wkt.specs.declared.ReadAnswer.{ReadAnswer}
 use Rattle.wkt.specs.Whole.{Leaves}
-use Rattle.shape.specs.Store.{wellFormed}
-use Rattle.bridge.specs.Rows.{allRows, allSpans, IsTree}
-use Rattle.bridge.proofs.Whole.{well-formed-is}
+use Rattle.shape.specs.Store.{allRows, allSpans, allTexts, wellFormed, treeOf}
+use Rattle.shape.proofs.Stores.{tree-of, is-well-formed}
+use Rattle.shape.proofs.Slices.{flat-rows, flat-spans, flat-whole, used-rows, used-spans}
+use Rattle.to_wkt.specs.declared.WriteAnswer.{WriteAnswer}
+use Rattle.to_wkt.specs.Canonical.{storeText}
+use Rattle.to_wkt.specs.Write.{accepted, answerOf, roomAfter, Written}
 use Rattle.demands.specs.Calls.{Read, usedNodes, usedNumbers}
-use Rattle.demands.proofs.Flat.{flat-rows, flat-spans, flat-whole, used-rows, used-spans}
 
 -- ---- what a reading was, by its answer
 pub record Accepts (N M : ℕ) (text : List ℕ) : Type 0 where
@@ -61,8 +67,18 @@ module _ (text ns ms : List ℕ) (a : ReadAnswer) (ns′ ms′ : List ℕ) (rs :
   pub its-spans : allSpans text (usedNumbers a ms′) ≡ ss
   its-spans = ap (allSpans text) its-numbers ∙ flat-spans text ss kept
 
-  its-tree : IsTree text (usedNodes a ns′) (usedNumbers a ms′)
-  its-tree = record { lengths = rw (its-nodes, its-numbers) (flat-whole rs ss); well = rw (its-rows, its-spans) (reading-well-formed (nodeRoom ns) (numberRoom ms) text rs ss is) }
+  -- and they are the tree that its rows and number texts are
+  pub its-store : (t : Tree depthLimit) → treeIn depthLimit rs (spanTexts ss) ≡ some t → treeOf text (usedNodes a ns′) (usedNumbers a ms′) ≡ some t
+  its-store t e =
+      let is : treeIn depthLimit (allRows (usedNodes a ns′)) (allTexts text (usedNumbers a ms′)) ≡ some t = ap (λ l. treeIn depthLimit l (allTexts text (usedNumbers a ms′))) its-rows ∙ ap (λ l. treeIn depthLimit rs (spanTexts l)) its-spans ∙ e in
+      let numbers : All (SpanIn text) (allSpans text (usedNumbers a ms′)) = rw its-spans kept in
+      tree-of text (usedNodes a ns′) (usedNumbers a ms′) (record { lengths = rw (its-nodes, its-numbers) (flat-whole rs ss); well = record { tree = t; is = is; numbers = numbers } })
 
   pub is-well : wellFormed text (usedNodes a ns′) (usedNumbers a ms′) ≡ true
-  is-well = well-formed-is text (usedNodes a ns′) (usedNumbers a ms′) .1 its-tree
+  is-well =
+      let w = reading-well-formed (nodeRoom ns) (numberRoom ms) text rs ss is in
+      is-well-formed text (usedNodes a ns′) (usedNumbers a ms′) (w .tree) (its-store (w .tree) (w .is))
+
+-- ---- what a writing says of a store that has a canonical text, with room for it
+pub said : (text nodes numbers b : List ℕ) (room : ℕ) (r : WriteAnswer) (bytes : List ℕ) → storeText text nodes numbers ≡ some b → length b ≤ room → Written text nodes numbers room r bytes → (r ≡ accepted (length b)) × (bytes ≡ padded b room)
+said text nodes numbers b room r bytes e h w = (w .answer ∙ ap (λ o. answerOf o room) e ∙ rw (le-leb (length b) room h), w .bytes ∙ ap (λ o. roomAfter o room) e ∙ rw (le-leb (length b) room h))

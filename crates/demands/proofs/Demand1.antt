@@ -4,7 +4,7 @@ use mathlib.Core.Path.{_≡_, refl, ap, sym, _∙_}
 use mathlib.Core.Bool.{Bool, true, false, false≢true, cond, _||_, _&&_}
 use mathlib.Core.Logic.{_⊎_, inl, inr}
 use mathlib.Core.Option.{Option, none, some}
-use mathlib.Core.List.{List, [], _∷_}
+use mathlib.Core.List.{List, [], _∷_, _++_}
 use Prim.Native.Nat.{ℕ, _+_, _-_, _≤_, _<_}
 use native.Mathlib.Omega.{arith}
 use lib.Dec.{eqb, leb}
@@ -13,42 +13,55 @@ use borrow.Author.Tests.{eqb-false, leb-true, leb-false}
 use Rattle.limits.specs.Limits.{textLimit, overLimit, depthLimit}
 use Rattle.utf8.specs.Utf8.{isUtf8, firstIll}
 use Rattle.tokenizer.specs.Lex.{lex}
+use Rattle.tokenizer.specs.Stream.{Tok, Str, toks}
 use Rattle.tokenizer.specs.declared.Found.{Found}
 use Rattle.tokenizer.specs.declared.Held.{Held}
 use Rattle.tokenizer.specs.declared.Refusal.{Refusal}
 use Rattle.tokenizer.specs.Tokens.{readAt, takeHeld, hold, step, cursorAt}
 use Rattle.tokenizer.proofs.Stream.{take-head, take-tail, look-head, look-same}
 use Rattle.lists.proofs.Cases.{either}
-use Rattle.store.specs.Rows.{Row, row, nodeRoom, numberRoom, rowsIn, zeros, padded}
+use Rattle.store.specs.Rows.{Row, nodeRoom, numberRoom, zeros, padded}
 use Rattle.store.proofs.Rows.{rows-length}
 use Rattle.infer_type.specs.declared.Inferred.{Inferred}
 use Rattle.infer_type.specs.Infer as infer
-use Rattle.infer_type.specs.Answers.{Answer, is, long, ill, wide, noName, noSpace, neither}
+use Rattle.infer_type.specs.Answers.{Answer, long, ill, wide, neither, noSpace, noName, namedParen, namedEmpty}
 use Rattle.infer_type.proofs.Answers.{inferType-one, inferType-answers}
 use Rattle.lists.specs.Lists.{All}
 use Rattle.grammar.specs.Answers.{Passes, isRefusal, isHalt, Refused, Halted}
-use Rattle.grammar.specs.Demand.{run, answerIn}
-use Rattle.grammar.specs.Grammar.{out, Got, ok, refused, halt, refusal, root}
-use Rattle.grammar.specs.Whole.{enough, reading}
+use Rattle.grammar.specs.Asks.{Ran, ran, run, answerIn}
+use Rattle.grammar.specs.Grammar.{Out, out, Got, ok, refused, halt, refusal, root}
+use Rattle.grammar.specs.Reading.{enough, reading}
+use Rattle.grammar.proofs.After.{accepted}
 use Rattle.grammar.proofs.Fuel.{reading-refusals, reading-halts, reading-kept}
 use Rattle.wkt.specs.declared.ReadAnswer.{ReadAnswer}
 use Rattle.wkt.specs.Whole as read
 use Rattle.wkt.specs.Whole.{Leaves, leaves-one}
 use Rattle.shape.specs.declared.Visit.{Visit}
 use Rattle.shape.specs.declared.Frame.{Frame}
-use Rattle.shape.specs.Nodes.{theVisits, above, visitOf, numbersOf, isLeaf, isAllowed, mayOpen, opened, after, ends, isOpen, ending, follow, atLast, visitsBy, visits, treeOf}
+use Rattle.shape.specs.declared.Met.{Met}
+use Rattle.shape.specs.declared.Met.the-variants as met
+use Rattle.shape.specs.Nodes.{noKind, above, visitOf, numbersOf, isLeaf, isAllowed, mayOpen, opened, onward, isSpent, endOf, endings, stillOpen, follow, atLast, meetsNode, meetsRows, meets}
 use Rattle.shape.specs.Numbers.{areNumbers}
-use Rattle.shape.specs.Store.{areWhole, visitsOf, wellFormed, illFormed}
-use Rattle.strict.specs.Rules.{letterA, letterB, letterC, letterD, noLetter, failsA, failsB, failsC, failsD, fault}
-use Rattle.strict.specs.Strict.{firstFault, ofVisits, strictOf}
+use Rattle.shape.specs.Store.{allRows, areWhole, treeOf, wellFormed, mapO, walkOf}
+use Rattle.shape.proofs.Stores.{walk-of, well-by-walk}
+use Rattle.refusals.specs.Refusals.{illFormedStore, noRoom}
+use Rattle.tree.specs.Tree.{Tree}
+use Rattle.canonical_text.specs.Canonical.{canonicalText}
+use Rattle.strict.specs.declared.StrictAnswer.{StrictAnswer}
+use Rattle.strict.specs.Strict.{ofWalk, strictOf}
+use Rattle.strict.specs.Outcome as outcome
+use Rattle.strict.specs.Outcome.{Outcome}
+use Rattle.strict.proofs.Outcome.{first-fault}
 use Rattle.to_wkt.specs.declared.WriteAnswer.{WriteAnswer}
-use Rattle.to_wkt.specs.Canonical.{nodesText, textOfVisits, canonical, textOf}
+use Rattle.to_wkt.specs.Canonical.{storeText, theText, textOf}
 use Rattle.to_wkt.specs.Write as write
-use Rattle.to_wkt.specs.Write.{noRoom, answerOf, roomAfter}
-use Rattle.demands.specs.Faults.{PlaceOf, over-limit, ill-formed, at-fault}
-use Rattle.demands.specs.Demand1.{OneReading, OneWritten, RefusedReading, ReadRefuses, ReadPlaces, ReadAccepts, WriteRefuses, Writing, no-store, too-long, fits, WriteAnswers, OneChecked, Verdict, ill-store, passes, fails, StrictAnswers, OneInferred, TypeAnswers, isTypeRefusal, TypeRefuses, OneTaken, OneLooked, TakesFirst, LooksOnly, ComesOut}
+use Rattle.to_wkt.specs.Write.{answerOf, roomAfter}
+use Rattle.demands.specs.Faults.{PlaceOf, over-limit, ill-formed, at-fault, AtFault, no-node, no-number, too-deep, bad-number, not-ascii, no-root, no-name, no-header, no-ending, not-opened, not-closed, no-x, no-y, no-z, no-m, no-child, stopped}
+use Rattle.demands.specs.Demand1.{OneReading, OneWritten, RefusedReading, ReadRefuses, ReadPlaces, ReadAccepts, WriteRefuses, Writing, no-store, too-long, fits, WriteAnswers, OneChecked, Verdict, ill-store, passes, fails, StrictAnswers, OneInferred, TypeAnswers, isTypeRefusal, TypeRefuses, OneTaken, OneLooked, TakesFirst, LooksOnly, ComesOut, ReadsBySteps, ReadTooLong, ReadIllFormed}
+use Rattle.demands.specs.Steps.{Came, read-whole}
 use Rattle.demands.proofs.Calls.{accepts, left, its-nodes, its-numbers}
-use Rattle.demands.proofs.Faults.{Faulty, out-of-count, faulty, GotIn, One, text-faults}
+use Rattle.demands.proofs.Steps.{Stopped, stopped-at, Faulty, faulty, GotIn}
+use Rattle.demands.proofs.Faults.{text-faults}
 
 pub one-reading : OneReading
 one-reading text ns ms a ns′ ms′ c ns″ ms″ x y = leaves-one x y
@@ -104,31 +117,88 @@ read-places text ns ms a ns′ ms′ r h = go (overLimit (length text)) refl (is
     M = numberRoom ms
 
     Say : Got → Type 0
-    Say g = a ≡ read.answerOf g → PlaceOf text (a .number) (a .place)
+    Say g = a ≡ read.answerOf g → PlaceOf N M text (a .number) (a .place)
 
     -- what the tokens are refused with
-    met : (f : Refusal) → Passes text → Faulty (One text) (λ t q. q .1) f → a ≡ read.refusal f → PlaceOf text (a .number) (a .place)
-    met f p (out-of-count z) e = absurd (h (ap (λ (x : ReadAnswer). x .number) e ∙ ap (λ (x : Refusal). x .number) z))
-    met f p (faulty t q w z) e = rw (e, z) (at-fault t p (q .0) w)
+    met : (f : Refusal) (s : Str) → Passes text → Faulty N M (toks text 0) [] f s → a ≡ read.refusal f → PlaceOf N M text (a .number) (a .place)
+    met _ _ p (faulty q w v) e = rw e (at-fault p q w v)
 
-    tokens : (g : Got) → Passes text → GotIn (One text) (λ t q. q .1) g → Say g
-    tokens (ok (out rs ss)) p k e = absurd (h (ap (λ (x : ReadAnswer). x .number) e))
-    tokens (refused f) p k e = met f p k e
-    tokens (halt f) p k e = met f p k e
+    -- and stopped by
+    ended : (f : Refusal) → Passes text → Stopped N M (toks text 0) f → a ≡ read.refusal f → PlaceOf N M text (a .number) (a .place)
+    ended _ p (stopped-at q w v) e = rw e (stopped p q w v)
+
+    tokens : (x : Ran Got) → Passes text → GotIn N M (toks text 0) [] (Came N M (toks text 0) [] read-whole) x → Say (answerIn x)
+    tokens (ran (ok (out rs ss)) s) p k e = absurd (h (ap (λ (x : ReadAnswer). x .number) e))
+    tokens (ran (refused f) s) p k e = met f s p (k .1) e
+    tokens (ran (halt f) s) p k e = ended f p k e
 
     go : (b : Bool) → overLimit (length text) ≡ b → (c : Bool) → isUtf8 text ≡ c → Say (cond b (refused (refusal 1 textLimit)) (cond c (answerIn (run (root N M enough depthLimit) (lex 0 text))) (refused (refusal 2 (firstIll text)))))
     go true l c u e = rw e (over-limit l)
-    go false l true u e = tokens (answerIn (run (root N M enough depthLimit) (lex 0 text))) (record { short = l; utf8 = u }) (text-faults N M text) e
+    go false l true u e = tokens (run (root N M enough depthLimit) (lex 0 text)) (record { short = l; utf8 = u }) (text-faults N M text l) e
     go false l false u e = rw e (ill-formed l u)
 
-pub write-refuses : WriteRefuses
-write-refuses text nodes numbers room r bytes w h = go (canonical text nodes numbers) (w .answer) (w .bytes)
+pub reads-by-steps : ReadsBySteps
+unfolding reading
+reads-by-steps text ns ms a ns′ ms′ r z =
+    let o = accepts text ns ms a ns′ ms′ r z in
+    let p = accepted (nodeRoom ns) (numberRoom ms) text (out (o .rows) (o .spans)) (o .is) in
+    let e : answerIn (run (root (nodeRoom ns) (numberRoom ms) enough depthLimit) (lex 0 text)) ≡ ok (out (o .rows) (o .spans)) = rw (p .short, p .utf8) at (o .is) in
+    let c = came (run (root (nodeRoom ns) (numberRoom ms) enough depthLimit) (lex 0 text)) (out (o .rows) (o .spans)) (text-faults (nodeRoom ns) (numberRoom ms) text (p .short)) e in
+    (o .rows, o .spans, c .0, c .1, its-nodes text ns ms a ns′ ms′ (o .rows) (o .spans) r (o .is), its-numbers text ns ms a ns′ ms′ (o .rows) (o .spans) r (o .is))
   where
-    fits : (b : Bool) (n : ℕ) (l : List ℕ) → r ≡ cond b (write.accepted n) (write.refused noRoom) → bytes ≡ cond b l (zeros room) → ((r ≡ write.refused illFormed) ⊎ (r ≡ write.refused noRoom)) × (bytes ≡ zeros room)
+    came : (x : Ran Got) (o : Out) → GotIn (nodeRoom ns) (numberRoom ms) (toks text 0) [] (Came (nodeRoom ns) (numberRoom ms) (toks text 0) [] read-whole) x → answerIn x ≡ ok o
+        → (s : Str) × Came (nodeRoom ns) (numberRoom ms) (toks text 0) [] read-whole o s
+    came (ran (ok o₁) s) o h e = let q : o₁ ≡ o = cc in (s, rw q at h)
+    came (ran (refused f) s) o h e = let q : _≡_ {A = ℕ} 0 1 = cc in absurd (omega (arith, q))
+    came (ran (halt f) s) o h e = let q : _≡_ {A = ℕ} 0 1 = cc in absurd (omega (arith, q))
+
+-- ---- 1 and 2, exactly when
+fault-number : {t : Tok} {e : ℕ} → AtFault t e → 3 ≤ e
+fault-number no-node = omega arith
+fault-number (no-number s) = omega arith
+fault-number (too-deep s) = omega arith
+fault-number (bad-number s) = omega arith
+fault-number (not-ascii s w) = omega arith
+fault-number (no-root o) = omega arith
+fault-number (no-name s i) = omega arith
+fault-number (no-header l) = omega arith
+fault-number (no-ending s i w) = omega arith
+fault-number (not-opened o w) = omega arith
+fault-number (not-closed o) = omega arith
+fault-number (no-x o) = omega arith
+fault-number (no-y o) = omega arith
+fault-number (no-z o) = omega arith
+fault-number (no-m o) = omega arith
+fault-number (no-child o) = omega arith
+
+why : (text : List ℕ) {N M e p : ℕ} → PlaceOf N M text e p → (e ≡ 1 → overLimit (length text) ≡ true) × (e ≡ 2 → (overLimit (length text) ≡ false) × (isUtf8 text ≡ false))
+why text (over-limit l) = ((λ z. l), λ z. absurd (omega (arith, z)))
+why text (ill-formed l u) = ((λ z. absurd (omega (arith, z))), λ z. (l, u))
+why text (stopped p a f r) = ((λ z. absurd (omega (arith, fault-number f, z))), λ z. absurd (omega (arith, fault-number f, z)))
+why text (at-fault p a f r) = ((λ z. absurd (omega (arith, fault-number f, z))), λ z. absurd (omega (arith, fault-number f, z)))
+
+pub read-too-long : ReadTooLong
+unfolding reading
+read-too-long text ns ms a ns′ ms′ r = (
+  (λ z. why text (read-places text ns ms a ns′ ms′ r (λ y. omega (arith, y, z))) .0 z),
+  λ l. (let e : a ≡ read.refusal (refusal 1 textLimit) = rw l at (r .answer) in ap (λ (x : ReadAnswer). x .number) e),
+)
+
+pub read-ill-formed : ReadIllFormed
+unfolding reading
+read-ill-formed text ns ms a ns′ ms′ r = (
+  (λ z. why text (read-places text ns ms a ns′ ms′ r (λ y. omega (arith, y, z))) .1 z),
+  λ l. (let e : a ≡ read.refusal (refusal 2 (firstIll text)) = rw (l .0, l .1) at (r .answer) in ap (λ (x : ReadAnswer). x .number) e),
+)
+
+pub write-refuses : WriteRefuses
+write-refuses text nodes numbers room r bytes w h = go (storeText text nodes numbers) (w .answer) (w .bytes)
+  where
+    fits : (b : Bool) (n : ℕ) (l : List ℕ) → r ≡ cond b (write.accepted n) (write.refused noRoom) → bytes ≡ cond b l (zeros room) → ((r ≡ write.refused illFormedStore) ⊎ (r ≡ write.refused noRoom)) × (bytes ≡ zeros room)
     fits true n l e f = absurd (h (ap (λ (x : WriteAnswer). x .number) e))
     fits false n l e f = (inr e, f)
 
-    go : (o : Option (List ℕ)) → r ≡ answerOf o room → bytes ≡ roomAfter o room → ((r ≡ write.refused illFormed) ⊎ (r ≡ write.refused noRoom)) × (bytes ≡ zeros room)
+    go : (o : Option (List ℕ)) → r ≡ answerOf o room → bytes ≡ roomAfter o room → ((r ≡ write.refused illFormedStore) ⊎ (r ≡ write.refused noRoom)) × (bytes ≡ zeros room)
     go none e f = (inl e, f)
     go (some b) e f = fits (leb (length b) room) (length b) (padded b room) e f
 
@@ -146,20 +216,20 @@ read-accepts text ns ms a ns′ ms′ r z =
     }
 
 pub write-answers : WriteAnswers
-unfolding canonical wellFormed textOf
-write-answers text nodes numbers room r bytes w = go (visitsOf text nodes numbers) refl (w .answer) (w .bytes)
+unfolding storeText wellFormed textOf
+write-answers text nodes numbers room r bytes w = go (treeOf text nodes numbers) refl (w .answer) (w .bytes)
   where
-    its : List Visit → List ℕ
-    its vs = nodesText text numbers vs
+    its : Tree depthLimit → List ℕ
+    its t = canonicalText t
 
-    sized : (vs : List Visit) → visitsOf text nodes numbers ≡ some vs → (b : Bool) → leb (length (its vs)) room ≡ b
-        → Writing text nodes numbers room (cond b (write.accepted (length (its vs))) (write.refused noRoom)) (cond b (padded (its vs) room) (zeros room))
-    sized vs e true l = rw (← ap theVisits e) (fits (rw e) (rw e (leb-true (length (its vs)) room l)))
-    sized vs e false l = too-long (rw e) (rw e (leb-false (length (its vs)) room l))
+    sized : (t : Tree depthLimit) → treeOf text nodes numbers ≡ some t → (b : Bool) → leb (length (its t)) room ≡ b
+        → Writing text nodes numbers room (cond b (write.accepted (length (its t))) (write.refused noRoom)) (cond b (padded (its t) room) (zeros room))
+    sized t e true l = rw (← ap (λ o. theText (mapO canonicalText o)) e) (fits (rw e) (rw e (leb-true (length (its t)) room l)))
+    sized t e false l = too-long (rw e) (rw e (leb-false (length (its t)) room l))
 
-    go : (o : Option (List Visit)) → visitsOf text nodes numbers ≡ o → r ≡ answerOf (textOfVisits text numbers o) room → bytes ≡ roomAfter (textOfVisits text numbers o) room → Writing text nodes numbers room r bytes
+    go : (o : Option (Tree depthLimit)) → treeOf text nodes numbers ≡ o → r ≡ answerOf (mapO canonicalText o) room → bytes ≡ roomAfter (mapO canonicalText o) room → Writing text nodes numbers room r bytes
     go none e x y = rw (x, y) (no-store (rw e))
-    go (some vs) e x y = rw (x, y) (sized vs e (leb (length (its vs)) room) refl)
+    go (some t) e x y = rw (x, y) (sized t e (leb (length (its t)) room) refl)
 
 -- ---- the strict check
 pub one-checked : OneChecked
@@ -170,23 +240,40 @@ module _ {X : Type 0} where
   Every Q none = Unit {0}
   Every Q (some xs) = All Q xs
 
--- the nodes of a store stand in its rows
+-- the nodes that a walk meets stand in its rows
 module _ (L : ℕ) where
-  abbrev Below : Visit → Type 0
-  Below v = v .row < L
+  abbrev Below : Met → Type 0
+  Below (met.Node v) = v .row < L
+  Below (met.End i n) = Unit {0}
+  Below met.Done = Unit {0}
+  Below met.Ill = Unit {0}
 
-  follow-below : (v : Visit) (o : Option (List Visit)) → Below v → Every Below o → Every Below (follow v o)
+  both-below : (a b : List Met) → All Below a → All Below b → All Below (a ++ b)
   unfolding All
-  follow-below v none b h = tt
-  follow-below v (some vs) b h = (b, h)
+  both-below [] b h k = k
+  both-below (m ∷ a) b h k = (h .0, both-below a b (h .1) k)
 
-  one-below : (count : ℕ) (fs : List Frame) (v : Visit) (rest : List Frame → ℕ → Option (List Visit)) → Below v → ((gs : List Frame) (j : ℕ) → Every Below (rest gs j)) → Every Below (visitsBy count fs v rest)
-  unfolding visitsBy
-  one-below count fs v rest b h =
+  follow-below : (ms : List Met) (o : Option (List Met)) → All Below ms → Every Below o → Every Below (follow ms o)
+  follow-below ms none b h = tt
+  follow-below ms (some more) b h = both-below ms more b h
+
+  end-below : (f : Frame) (i : ℕ) → All Below (endOf f i)
+  unfolding endOf All
+  end-below f i = either (eqb (f .kind) noKind) (All Below) _ _ (λ e. tt) λ e. (tt, tt)
+
+  endings-below : (fs : List Frame) (i : ℕ) → All Below (endings fs i)
+  unfolding endings All
+  endings-below [] i = tt
+  endings-below (f ∷ fs) i = either (isSpent f) (All Below) _ _ (λ e. both-below (endOf f i) (endings fs i) (end-below f i) (endings-below fs i)) λ e. tt
+
+  one-below : (count : ℕ) (f : Frame) (fs : List Frame) (v : Visit) (rest : List Frame → ℕ → Option (List Met)) → v .row < L → ((gs : List Frame) (j : ℕ) → Every Below (rest gs j)) → Every Below (meetsNode count f fs v rest)
+  unfolding meetsNode All
+  one-below count f fs v rest b h =
+      let node : All Below (met.Node v ∷ []) = (b, tt) in
       either (isAllowed v) (Every Below) _ _
       (λ a. either (isLeaf v) (Every Below) _ _
-      (λ l. either (leb (v .number + numbersOf v) count) (Every Below) _ _ (λ e. follow-below (ending v (ends fs) (isOpen (after fs))) (rest (after fs) (v .number + numbersOf v)) b (h _ _)) λ e. tt)
-      λ l. either (mayOpen v) (Every Below) _ _ (λ e. follow-below v (rest (opened v ∷ fs) (v .number)) b (h _ _)) λ e. tt)
+      (λ l. either (leb (v .number + numbersOf v) count) (Every Below) _ _ (λ e. follow-below (met.Node v ∷ []) (rest (onward f ∷ fs) (v .number + numbersOf v)) node (h _ _)) λ e. tt)
+      λ l. either (mayOpen v) (Every Below) _ _ (λ e. follow-below (met.Node v ∷ []) (rest (opened v ∷ onward f ∷ fs) (v .number)) node (h _ _)) λ e. tt)
       λ a. tt
 
   last-below : (count : ℕ) (fs : List Frame) (j : ℕ) → Every Below (atLast count fs j)
@@ -194,46 +281,39 @@ module _ (L : ℕ) where
   last-below count [] j = either (eqb j count) (Every Below) _ _ (λ e. tt) λ e. tt
   last-below count (f ∷ fs) j = tt
 
-  visits-below : (count : ℕ) (fs : List Frame) (i j : ℕ) (rs : List Row) → i + length rs ≤ L → Every Below (visits count fs i j rs)
-  unfolding visits
-  visits-below count fs i j [] h = last-below count fs j
-  visits-below count [] i j (r ∷ rs) h = tt
-  visits-below count (f ∷ fs) i j (row k d n ∷ rs) h = one-below count (f ∷ fs) (visitOf i j f (row k d n)) _ (omega arith) λ gs j′. visits-below count gs (i + 1) j′ rs (omega arith)
+  rows-below : (count : ℕ) (fs : List Frame) (i j : ℕ) (rs : List Row) → i + length rs ≤ L → Every Below (meetsRows count fs i j rs)
+  unfolding meetsRows
+  rows-below count fs i j [] h = last-below count fs j
+  rows-below count [] i j (r ∷ rs) h = tt
+  rows-below count (f ∷ fs) i j (r ∷ rs) h =
+      one-below count f fs (visitOf i j f r) _ (omega arith)
+      λ gs j′. follow-below (endings gs (i + 1)) (meetsRows count (stillOpen gs) (i + 1) j′ rs) (endings-below gs (i + 1)) (rows-below count (stillOpen gs) (i + 1) j′ rs (omega arith))
 
-store-below : (text nodes numbers : List ℕ) → Every (Below (nodeRoom nodes)) (visitsOf text nodes numbers)
-unfolding visitsOf treeOf rowsIn
+store-below : (text nodes numbers : List ℕ) → Every (Below (nodeRoom nodes)) (walkOf text nodes numbers)
+unfolding meets
 store-below text nodes numbers =
-    either (areWhole nodes numbers && areNumbers text numbers) (Every (Below (nodeRoom nodes))) _ _
-    (λ e. visits-below (nodeRoom nodes) (numberRoom numbers) (above ∷ []) 0 0 (rowsIn nodes (nodeRoom nodes)) (omega (arith, rows-length nodes (nodeRoom nodes)))) λ e. tt
+    rw (walk-of text nodes numbers)
+    (either (areWhole nodes numbers && areNumbers text numbers) (Every (Below (nodeRoom nodes))) _ _
+    (λ e. follow-below (nodeRoom nodes) (endings (above ∷ []) 0) (meetsRows (numberRoom numbers) (stillOpen (above ∷ [])) 0 0 (allRows nodes)) (endings-below (nodeRoom nodes) (above ∷ []) 0)
+    (rows-below (nodeRoom nodes) (numberRoom numbers) (stillOpen (above ∷ [])) 0 0 (allRows nodes) (omega (arith, rows-length nodes (nodeRoom nodes))))) λ e. tt)
 
--- a fault is none or a letter from A to D
-a-letter : (text numbers : List ℕ) (v : Visit) → (fault text numbers v ≡ noLetter → ⊥) → (letterA ≤ fault text numbers v) × (fault text numbers v ≤ letterD)
-unfolding fault
-a-letter text numbers v = go (failsA v) (failsB v) (failsC text numbers v) (failsD v)
-  where
-    its : Bool → Bool → Bool → Bool → ℕ
-    its a b c d = cond a letterA (cond b letterB (cond c letterC (cond d letterD noLetter)))
-
-    go : (a b c d : Bool) → (its a b c d ≡ noLetter → ⊥) → (letterA ≤ its a b c d) × (its a b c d ≤ letterD)
-    go true b c d h = (omega arith, omega arith)
-    go false true c d h = (omega arith, omega arith)
-    go false false true d h = (omega arith, omega arith)
-    go false false false true h = (omega arith, omega arith)
-    go false false false false h = absurd (h refl)
+-- a node in the midst of those that are met
+in-midst : (L : ℕ) (v : Visit) (before after : List Met) → All (Below L) (before ++ met.Node v ∷ after) → v .row < L
+unfolding All
+in-midst L v [] after h = h .0
+in-midst L v (m ∷ before) after h = in-midst L v before after (h .1)
 
 pub strict-answers : StrictAnswers
-unfolding strictOf wellFormed firstFault All
-strict-answers text nodes numbers r e = rw e (go (visitsOf text nodes numbers) refl (store-below text nodes numbers))
+unfolding strictOf
+strict-answers text nodes numbers r e = rw e (go (walkOf text nodes numbers) refl (store-below text nodes numbers))
   where
-    first : (vs : List Visit) → wellFormed text nodes numbers ≡ true → All (Below (nodeRoom nodes)) vs → Verdict text nodes numbers (firstFault text numbers vs)
-    first [] w h = passes w
-    first (v ∷ vs) w h =
-        either (eqb (fault text numbers v) noLetter) (Verdict text nodes numbers) _ _ (λ z. first vs w (h .1))
-        λ z. (let l = a-letter text numbers v (eqb-false _ _ z) in fails w (l .0) (l .1) (h .0))
+    judged : (ms : List Met) {r : StrictAnswer} → walkOf text nodes numbers ≡ some ms → wellFormed text nodes numbers ≡ true → All (Below (nodeRoom nodes)) ms → Outcome text numbers ms r → Verdict text nodes numbers r
+    judged ms e w h (outcome.passes all) = passes w e all
+    judged ms e w h (outcome.fails before v after is all low) = fails before v after w (e ∙ ap some is) all low (in-midst (nodeRoom nodes) v before after (rw is at h))
 
-    go : (o : Option (List Visit)) → visitsOf text nodes numbers ≡ o → Every (Below (nodeRoom nodes)) o → Verdict text nodes numbers (ofVisits text numbers o)
-    go none e h = ill-store (rw e)
-    go (some vs) e h = first vs (rw e) h
+    go : (o : Option (List Met)) → walkOf text nodes numbers ≡ o → Every (Below (nodeRoom nodes)) o → Verdict text nodes numbers (ofWalk text numbers o)
+    go none e h = ill-store (well-by-walk text nodes numbers ∙ rw e)
+    go (some ms) e h = judged ms e (well-by-walk text nodes numbers ∙ rw e) h (first-fault text numbers ms)
 
 -- ---- infer_type
 pub one-inferred : OneInferred
@@ -246,13 +326,14 @@ pub type-refuses : TypeRefuses
 type-refuses text r e h = go (type-answers text r e) h
   where
     go : {a : Inferred} → Answer text a → (a .number ≡ 0 → ⊥) → (isTypeRefusal (a .number) ≡ true) × (a ≡ infer.refused (a .number) (a .place))
-    go (is low high d) n = absurd (n refl)
+    go (namedParen k p f w) n = absurd (n refl)
+    go (namedEmpty k p s f w) n = absurd (n refl)
     go (long x) n = (refl, refl)
-    go (ill x) n = (refl, refl)
-    go (wide s w) n = (refl, refl)
-    go (noName s) n = (refl, refl)
-    go (noSpace s) n = (refl, refl)
-    go (neither s) n = (refl, refl)
+    go (ill x u) n = (refl, refl)
+    go (wide x u s w) n = (refl, refl)
+    go (noName k p f) n = (refl, refl)
+    go (noSpace k p f g) n = (refl, refl)
+    go (neither k p f) n = (refl, refl)
 
 -- ---- the token reader's steps
 pub one-taken : OneTaken

@@ -2,40 +2,37 @@
 -- Assumes nothing.
 use mathlib.Core.Path.{_≡_, refl, ap, sym, _∙_}
 use mathlib.Core.Logic.{_⊎_, inl, inr}
-use mathlib.Core.Option.{some}
+use mathlib.Core.Option.{Option, none, some, Option·map}
 use mathlib.Core.List.{List, [], _∷_, flatMap}
 use Prim.Native.Nat.{ℕ}
 use native.Mathlib.Omega.{arith}
 use lib.ListN.{length, getD, length-map}
-use borrow.Author.Tests.{le-leb}
 use Rattle.limits.specs.Limits.{depthLimit}
 use Rattle.scan.specs.Text.{bytes}
-use Rattle.scan.specs.Front.{begins, afterOne, afterAll, isNil}
-use Rattle.words.specs.Words.{sameWord}
-use Rattle.number.specs.Lexeme.{isNamed, isDigits, isExponent, isDecimal, isUnsigned, isLexeme}
+use Rattle.number.specs.Grammar.{Float}
+use Rattle.number.proofs.Equal.{sound}
 use Rattle.lists.specs.Lists.{every}
-use Rattle.kinds.specs.Kinds.{kindPoint, kindMultiPoint, dimXY, width}
 use Rattle.tokenizer.proofs.Bridge.{toks-lex}
-use Rattle.store.specs.Rows.{row, span, nodeRoom, numberRoom, cell, partsAt, startAt, firsts, rowsIn, spansIn, flatRows, flatSpans, zeros, padded}
+use Rattle.store.specs.Rows.{Row, Span, span, nodeRoom, numberRoom, cell, partsAt, startAt, flatRows, flatSpans, zeros, padded}
 use Rattle.lists.specs.Lists.{All}
 use Rattle.grammar.specs.Answers.{Passes}
-use Rattle.grammar.specs.Edges.{Edge, reads, Holds, edges, every-edge}
-use Rattle.grammar.specs.Grammar.{Got, ok, out}
-use Rattle.tree.specs.TreeIn.{spanText, spanTexts}
-use Rattle.grammar.specs.Whole.{reading}
+use Rattle.grammar.specs.Edges.{Edge, reads, writes, Holds, onePoint, twoPoints, edges, every-edge}
+use Rattle.grammar.specs.Grammar.{Got, ok, refused, halt, out}
+use Rattle.tree.specs.Tree.{Tree}
+use Rattle.tree.specs.TreeIn.{spanText, spanTexts, treeIn, SpanIn}
+use Rattle.canonical_text.specs.Canonical.{canonicalText}
+use Rattle.grammar.specs.Reading.{reading, treeRead}
 use Rattle.tree.proofs.TreeIn.{trees-own}
 use Rattle.grammar.proofs.WellRead.{reading-well-formed}
+use Rattle.grammar.proofs.Fuel.{reading-kept}
 use Rattle.wkt.specs.declared.ReadAnswer.{ReadAnswer}
 use Rattle.wkt.specs.Whole.{Leaves, leaves-one, answerOf, rowsOf, spansOf, rootIn}
-use Rattle.shape.specs.Nodes.{numbersOf, childKind, isAllowed, after, ends, isOpen, atLast, visitsBy, visits, treeOf}
-use Rattle.shape.specs.Numbers.{textAt, areNumbers}
-use Rattle.shape.specs.Store.{areWhole, visitsOf}
-use Rattle.to_wkt.specs.Canonical.{needsPlus, spell, putNumber, putSpaced, putCoordinate, putListed, putCoordinates, stringOf, putName, putDimension, putHead, putBody, putClosings, putTail, putNode, nodesText, canonical}
-use Rattle.to_wkt.specs.Write as write
-use Rattle.demands.specs.Calls.{usedNodes, usedNumbers}
-use Rattle.demands.specs.Demand2.{ReadsAsGrammar, Counted, ReadsEdge, EveryEdge, EdgeWritten, Left, Reader, Meets, OneReader, RefusesAll, FixedTree, FirstChildOnly, ShutsOut}
-use Rattle.demands.proofs.Flat.{used-rows, used-spans}
-use Rattle.demands.proofs.Calls.{accepts, left, its-nodes, its-spans}
+use Rattle.shape.specs.Store.{mapO, treeOf}
+use Rattle.to_wkt.specs.Canonical.{storeText}
+use Rattle.demands.specs.Calls.{Read, usedNodes, usedNumbers}
+use Rattle.demands.specs.Demand2.{ReadsAsGrammar, Counted, NumberTexts, ReadsEdge, EveryEdge, Left, Reader, Meets, OneReader, RefusesAll, FixedTree, FirstChildOnly, ShutsOut}
+use Rattle.shape.proofs.Slices.{used-rows}
+use Rattle.demands.proofs.Calls.{accepts, left, its-nodes, its-spans, its-store, said}
 
 passing : (N M : ℕ) (text : List ℕ) → Passes text → reading N M text ≡ rootIn N M text
 unfolding reading rootIn
@@ -59,9 +56,34 @@ counted text ns ms a ns′ ms′ r z =
       its-texts = ap spanTexts (its-spans text ns ms a ns′ ms′ (o .rows) (o .spans) r (o .is)) ∙ t .its-texts;
     }
 
+floats : (text : List ℕ) (ss : List Span) → All (SpanIn text) ss → All Float (spanTexts ss)
+unfolding All
+floats text [] h = tt
+floats text (span start len x ∷ ss) h = (sound x (h .0 .lexeme), floats text ss (h .1))
+
+pub number-texts : NumberTexts
+number-texts text ns ms a ns′ ms′ r z =
+    let o = accepts text ns ms a ns′ ms′ r z in
+    rw (its-spans text ns ms a ns′ ms′ (o .rows) (o .spans) r (o .is)) (floats text (o .spans) (reading-kept (nodeRoom ns) (numberRoom ms) text (o .rows) (o .spans) (o .is) .spans))
+
 -- ---- the edges
+-- an accepted text is written again as the canonical text of the tree that it is read to
+text-of : (N M : ℕ) (text b : List ℕ) → Holds (writes N M text b) → (ns ms : List ℕ) (a : ReadAnswer) (ns′ ms′ : List ℕ) → nodeRoom ns ≡ N → numberRoom ms ≡ M → Read text ns ms a ns′ ms′ → storeText text (usedNodes a ns′) (usedNumbers a ms′) ≡ some b
+unfolding storeText
+text-of N M text b h ns ms a ns′ ms′ n m r = go (reading (nodeRoom ns) (numberRoom ms) text) refl (rw (n, m) h)
+  where
+    tree : (rs : List Row) (ss : List Span) → reading (nodeRoom ns) (numberRoom ms) text ≡ ok (out rs ss) → (o : Option (Tree depthLimit)) → treeIn depthLimit rs (spanTexts ss) ≡ o → Option·map canonicalText o ≡ some b → mapO canonicalText (treeOf text (usedNodes a ns′) (usedNumbers a ms′)) ≡ some b
+    tree rs ss e none f h = let z : _≡_ {A = ℕ} 0 1 = cc in absurd (omega arith)
+    tree rs ss e (some t) f h = rw (its-store text ns ms a ns′ ms′ rs ss r e t f) h
+
+    go : (g : Got) → reading (nodeRoom ns) (numberRoom ms) text ≡ g → Option·map canonicalText (treeRead g) ≡ some b → mapO canonicalText (treeOf text (usedNodes a ns′) (usedNumbers a ms′)) ≡ some b
+    go (ok (out rs ss)) e h = tree rs ss e (treeIn depthLimit rs (spanTexts ss)) refl h
+    go (refused f) e h = let z : _≡_ {A = ℕ} 0 1 = cc in absurd (omega arith)
+    go (halt f) e h = let z : _≡_ {A = ℕ} 0 1 = cc in absurd (omega arith)
+
 edge : (e : Edge) → Holds e → ReadsEdge e
 edge (reads N M text g) h = λ ns ms a ns′ ms′ n m r. rw (n, m, h) at r
+edge (writes N M text b) h = λ ns ms a ns′ ms′ n m r room w out l x. said text (usedNodes a ns′) (usedNumbers a ms′) b room w out (text-of N M text b h ns ms a ns′ ms′ n m r) l x
 
 all-edges : (es : List Edge) → All Holds es → All ReadsEdge es
 unfolding All
@@ -109,11 +131,11 @@ abbrev multipoint : List ℕ
 multipoint = bytes "MULTIPOINT((1 2),3 4)"
 
 module _ (f : Reader) (m : Meets f) where
-  point-read : Leaves (ok (out (row kindPoint dimXY 1 ∷ []) (span 7 2 (bytes "+4") ∷ span 11 2 (bytes "-4") ∷ []))) ns₀ ms₀ (f point ns₀ ms₀ .answer) (f point ns₀ ms₀ .nodes) (f point ns₀ ms₀ .numbers)
+  point-read : Leaves (ok (out onePoint (span 7 2 (bytes "+4") ∷ span 11 2 (bytes "-4") ∷ []))) ns₀ ms₀ (f point ns₀ ms₀ .answer) (f point ns₀ ms₀ .nodes) (f point ns₀ ms₀ .numbers)
   unfolding edges All
   point-read = reads-edges .1 .1 .1 .1 .1 .1 .1 .1 .0 ns₀ ms₀ _ _ _ nodes-40 numbers-9 (m point ns₀ ms₀)
 
-  multipoint-read : Leaves (ok (out (row kindMultiPoint dimXY 2 ∷ row kindPoint dimXY 1 ∷ row kindPoint dimXY 1 ∷ []) (span 12 1 (bytes "1") ∷ span 14 1 (bytes "2") ∷ span 17 1 (bytes "3") ∷ span 19 1 (bytes "4") ∷ []))) ns₀ ms₀ (f multipoint ns₀ ms₀ .answer) (f multipoint ns₀ ms₀ .nodes) (f multipoint ns₀ ms₀ .numbers)
+  multipoint-read : Leaves (ok (out twoPoints (span 12 1 (bytes "1") ∷ span 14 1 (bytes "2") ∷ span 17 1 (bytes "3") ∷ span 19 1 (bytes "4") ∷ []))) ns₀ ms₀ (f multipoint ns₀ ms₀ .answer) (f multipoint ns₀ ms₀ .nodes) (f multipoint ns₀ ms₀ .numbers)
   unfolding edges All
   multipoint-read = reads-edges .1 .1 .1 .1 .1 .1 .1 .1 .1 .0 ns₀ ms₀ _ _ _ nodes-40 numbers-9 (m multipoint ns₀ ms₀)
 
@@ -126,8 +148,8 @@ shuts-out-fixed f m bad =
     let l = point-read f m in
     let l′ = multipoint-read f m in
     let e = bad point ns₀ ms₀ multipoint ns₀ ms₀ (ap (λ (x : ReadAnswer). x .number) (l .answer)) (ap (λ (x : ReadAnswer). x .number) (l′ .answer)) in
-    let u : usedNodes (f point ns₀ ms₀ .answer) (f point ns₀ ms₀ .nodes) ≡ 1 ∷ 0 ∷ 1 ∷ [] = rw (l .answer, l .nodes) (used-rows (row kindPoint dimXY 1 ∷ []) (length ns₀)) in
-    let u′ : usedNodes (f multipoint ns₀ ms₀ .answer) (f multipoint ns₀ ms₀ .nodes) ≡ 4 ∷ 0 ∷ 2 ∷ 1 ∷ 0 ∷ 1 ∷ 1 ∷ 0 ∷ 1 ∷ [] = rw (l′ .answer, l′ .nodes) (used-rows (row kindMultiPoint dimXY 2 ∷ row kindPoint dimXY 1 ∷ row kindPoint dimXY 1 ∷ []) (length ns₀)) in
+    let u : usedNodes (f point ns₀ ms₀ .answer) (f point ns₀ ms₀ .nodes) ≡ flatRows onePoint = rw (l .answer, l .nodes) (used-rows onePoint (length ns₀)) in
+    let u′ : usedNodes (f multipoint ns₀ ms₀ .answer) (f multipoint ns₀ ms₀ .nodes) ≡ flatRows twoPoints = rw (l′ .answer, l′ .nodes) (used-rows twoPoints (length ns₀)) in
     let z : _≡_ {A = ℕ} 1 4 = ap (λ (x : List ℕ). getD x 0 0) (sym u ∙ e ∙ u′) in
     omega (arith, z)
 
@@ -135,31 +157,8 @@ pub shuts-out-first : ShutsOut FirstChildOnly
 unfolding flatRows flatSpans flatMap cell ns₀ ms₀
 shuts-out-first f m bad =
     let l = multipoint-read f m in
-    go (bad multipoint ns₀ ms₀ (ap (λ (x : ReadAnswer). x .number) (l .answer)) (rw (l .nodes)))
+    go (bad multipoint ns₀ ms₀ (ap (λ (x : ReadAnswer). x .number) (l .answer)) (rw (l .nodes)) (rw (l .nodes)) (rw (l .nodes)))
   where
     go : (partsAt (f multipoint ns₀ ms₀ .nodes) 2 ≡ 0) ⊎ (startAt (f multipoint ns₀ ms₀ .numbers) 2 ≡ startAt (f multipoint ns₀ ms₀ .numbers) 0) → ⊥
     go (inl e) = let z : _≡_ {A = ℕ} 1 0 = rw (multipoint-read f m .nodes) at e in omega (arith, z)
     go (inr e) = let z : _≡_ {A = ℕ} 17 12 = rw (multipoint-read f m .numbers) at e in omega (arith, z)
-
--- ---- the edge that is written
--- all that its writing computes with
-all : ℕ
-unfolding begins afterOne afterAll isNil sameWord isNamed isDigits isExponent isDecimal isUnsigned isLexeme every cell firsts rowsIn spansIn width numbersOf childKind isAllowed after ends isOpen atLast visitsBy visits treeOf textAt areNumbers areWhole visitsOf needsPlus spell putNumber putSpaced putCoordinate putListed putCoordinates stringOf putName putDimension putHead putBody putClosings putTail putNode nodesText canonical
-all = 0
-
-pub point-text : canonical point (1 ∷ 0 ∷ 1 ∷ []) (7 ∷ 2 ∷ 11 ∷ 2 ∷ []) ≡ some (bytes "POINT(++4 -4)")
-unfolding all
-point-text = refl
-
-pub empty-text : canonical [] (1 ∷ 0 ∷ 0 ∷ []) [] ≡ some (bytes "POINT EMPTY")
-unfolding all
-empty-text = refl
-
-pub edge-written : EdgeWritten
-unfolding edges All flatRows flatSpans flatMap
-edge-written ns ms a ns′ ms′ n m r room w bs h x =
-    let l = reads-edges .1 .1 .1 .1 .1 .1 .1 .1 .0 ns ms a ns′ ms′ n m r in
-    let un : usedNodes a ns′ ≡ 1 ∷ 0 ∷ 1 ∷ [] = rw (l .answer, l .nodes) (used-rows (row kindPoint dimXY 1 ∷ []) (length ns)) in
-    let um : usedNumbers a ms′ ≡ 7 ∷ 2 ∷ 11 ∷ 2 ∷ [] = rw (l .answer, l .numbers) (used-spans (span 7 2 (bytes "+4") ∷ span 11 2 (bytes "-4") ∷ []) (length ms)) in
-    let c : canonical point (usedNodes a ns′) (usedNumbers a ms′) ≡ some (bytes "POINT(++4 -4)") = rw (un, um) point-text in
-    (x .answer ∙ ap (λ o. write.answerOf o room) c ∙ rw (le-leb 13 room h), x .bytes ∙ ap (λ o. write.roomAfter o room) c ∙ rw (le-leb 13 room h))

@@ -1,72 +1,112 @@
--- Demand 3, from the bridge and the theorems of crate grammar.
+-- Demand 3: canonical text is a form, by the theorems of crate grammar; what is promised of every form, and what follows.
 -- Assumes nothing.
 use mathlib.Core.Path.{_≡_, refl, ap, sym, _∙_}
-use mathlib.Core.Bool.{Bool, true, false, false≢true, cond}
-use mathlib.Core.Option.{Option, none, some}
-use mathlib.Core.List.{List, [], _∷_}
-use Prim.Native.Nat.{ℕ}
+use mathlib.Core.Bool.{Bool, true, false, cond}
+use mathlib.Core.Option.{none, some}
+use mathlib.Core.List.{List, [], _∷_, flatMap}
+use Prim.Native.Nat.{ℕ, zero, suc}
 use native.Mathlib.Omega.{arith}
 use lib.Dec.{leb}
-use lib.ListN.{length, getD, length-map}
-use borrow.Author.Tests.{le-leb}
-use Rattle.scan.specs.Text.{bytes}
-use Rattle.store.specs.Rows.{Row, nodeRoom, numberRoom, flatRows, padded}
-use Rattle.store.proofs.Rows.{rows-length, spans-length}
-use Rattle.lists.specs.Lists.{All}
-use Rattle.tree.specs.Tree.{Lexeme}
-use Rattle.tree.specs.TreeIn.{spanText, spanTexts}
-use Rattle.canonical_text.specs.Canonical as tree
-use Rattle.grammar.proofs.Canon.{ReadBack, canonical-back, one-store, all-texts}
+use lib.ListN.{length, getD, take, length-map}
+use borrow.Author.Tests.{leb-true}
+use Rattle.limits.specs.Limits.{textLimit, overLimit, depthLimit}
+use Rattle.utf8.specs.Utf8.{walk, firstIll, isUtf8}
+use Rattle.tokenizer.specs.declared.Refusal.{Refusal}
+use Rattle.refusals.specs.Refusals.{illFormedStore, noRoom}
+use Rattle.store.specs.Rows.{Row, Span, nodeRoom, numberRoom, cell, firsts, rowsIn, spansIn, zeros}
+use Rattle.tree.specs.Tree.{Tree, rows, texts}
+use Rattle.tree.specs.TreeIn.{spanText, spanTexts, treeIn}
+use Rattle.tree.specs.TreeIn as tree
+use Rattle.kinds.specs.Kinds.{kindPoint, kindLineString}
+use Rattle.lists.specs.Lists.{every}
+use Rattle.tree.proofs.TreeIn.{tree-in, TreesOwn, trees-own}
+use Rattle.canonical_text.specs.Canonical.{separated, putNamed, stringOf, putDimension, putWith, canonicalText}
+use Rattle.scan.specs.Bytes.{nul}
+use Rattle.tokenizer.specs.Lex.{Lexed, markTk, flush, lexByte, lexRun, lex}
+use Rattle.grammar.specs.Asks.{bind, run, answerIn}
+use Rattle.grammar.specs.Grammar.{out, Got, ok, refused, halt, refusal, rootHead, geometryBy, geometry, root}
+use Rattle.grammar.specs.Reading.{enough, reading, treeRead}
+use Rattle.grammar.proofs.Canon.{read-back}
 use Rattle.wkt.specs.declared.ReadAnswer.{ReadAnswer}
-use Rattle.shape.specs.Nodes.{isSome, theVisits}
-use Rattle.shape.specs.declared.Visit.{Visit}
-use Rattle.shape.specs.Store.{visitsOf, wellFormed, illFormed}
+use Rattle.shape.specs.Numbers.{areNumbers}
+use Rattle.shape.specs.Store.{allTexts, areWhole, treeOf, wellFormed}
+use Rattle.shape.proofs.Stores.{grown, store-tree}
+use Rattle.shape.proofs.Slices.{front-of, same-store}
+use Rattle.form.specs.Form.{RoomFor, Filled, Lawful}
+use Rattle.form.proofs.Form.{one-tree, trees-equal, trees-again, tree-back, one-tree-one-writing}
 use Rattle.to_wkt.specs.declared.WriteAnswer.{WriteAnswer}
-use Rattle.to_wkt.specs.Canonical.{nodesText, textOfVisits, canonical, textOf}
-use Rattle.to_wkt.specs.Write.{noRoom, accepted, answerOf, roomAfter}
+use Rattle.to_wkt.specs.Canonical.{storeText, theText, textOf}
+use Rattle.to_wkt.specs.Write.{accepted, answerOf}
 use Rattle.to_wkt.specs.Write as write
-use Rattle.bridge.specs.Rows.{allRows, allSpans, allTexts}
-use Rattle.bridge.proofs.Whole.{canonical-tree, well-formed-is}
+use Rattle.to_wkt.proofs.Trees.{has-text}
 use Rattle.demands.specs.Calls.{Read, usedNodes, usedNumbers}
-use Rattle.demands.specs.Demand3.{Short, OneWriting, Back, ReadsBack, ReadWell, NeverIll, ReadsAgain, Writer, MeetsWrite, FixedText, WritesNothing, NoWriter}
-use Rattle.demands.proofs.Flat.{nodes-flat, whole-lengths}
-use Rattle.demands.proofs.Calls.{accepts, left, its-nodes, its-rows, its-spans, is-well}
-use Rattle.demands.proofs.Demand2.{point, point-text, empty-text}
+use Rattle.demands.specs.Demand3.{FitsText, canonicalForm, textEntries, OneWritingOfTrees, OneWritingByCalls, Short, OneWriting, ReadsBack, ReadWell, NeverIll, ReadsAgain, Put, saidBy, Writer, MeetsWrite, WritesBack, FixedText, WritesNothing, MeetsBack, NoWriter}
+use Rattle.demands.proofs.Calls.{accepts, left, is-well, its-store, said}
+use Rattle.demands.proofs.Demand2.{one-reader}
 
--- ---- a well-formed store has a canonical text
-module _ (text nodes numbers : List ℕ) where
-  has-text : wellFormed text nodes numbers ≡ true → canonical text nodes numbers ≡ some (textOf text nodes numbers)
-  unfolding wellFormed canonical textOf
-  has-text e = go (visitsOf text nodes numbers) e
-    where
-      go : (o : Option (List Visit)) → isSome o ≡ true → textOfVisits text numbers o ≡ some (nodesText text numbers (theVisits o))
-      go none e = absurd (false≢true e)
-      go (some vs) e = refl
+-- ---- canonical text is a form
+tree-text : (text nodes numbers : List ℕ) (t : Tree depthLimit) → treeOf text nodes numbers ≡ some t → storeText text nodes numbers ≡ some (canonicalText t)
+unfolding storeText
+tree-text text nodes numbers t e = rw e
 
-  -- and it is the tree's
-  tree-text : wellFormed text nodes numbers ≡ true → tree.canonical (allRows nodes) (allTexts text numbers) ≡ some (textOf text nodes numbers)
-  tree-text e = sym (canonical-tree text nodes numbers (well-formed-is text nodes numbers .0 e)) ∙ has-text e
+text-back : (t : Tree depthLimit) (N M : ℕ) → FitsText t → RoomFor t N M → treeRead (reading N M (canonicalText t)) ≡ some t
+text-back t N M f h =
+    let u = read-back N M t (f .good) (f .short) (h .nodes) (h .numbers) in
+    ap treeRead (u .reads) ∙ ap (treeIn depthLimit (rows depthLimit t)) (u .its-texts) ∙ tree-in depthLimit t (f .good .shape)
 
-  lexemes : wellFormed text nodes numbers ≡ true → All Lexeme (allTexts text numbers)
-  lexemes e = all-texts text (allSpans text numbers) (well-formed-is text nodes numbers .0 e .well .numbers)
-
-  own-nodes : wellFormed text nodes numbers ≡ true → flatRows (allRows nodes) ≡ nodes
-  own-nodes e = nodes-flat nodes (whole-lengths nodes numbers (well-formed-is text nodes numbers .0 e .lengths) .0)
-
--- the canonical text is a function of the node rows and the number texts
-same-text : (text nodes numbers text′ nodes′ numbers′ : List ℕ) → wellFormed text nodes numbers ≡ true → wellFormed text′ nodes′ numbers′ ≡ true → allRows nodes ≡ allRows nodes′ → allTexts text numbers ≡ allTexts text′ numbers′ → textOf text nodes numbers ≡ textOf text′ nodes′ numbers′
-same-text text nodes numbers text′ nodes′ numbers′ w w′ en et = go (sym (tree-text text nodes numbers w) ∙ rw (en, et) (tree-text text′ nodes′ numbers′ w′))
+text-filled : (t : Tree depthLimit) (b ns ms : List ℕ) (a : ReadAnswer) (ns′ ms′ : List ℕ) → treeRead (reading (nodeRoom ns) (numberRoom ms) b) ≡ some t → Read b ns ms a ns′ ms′ → Filled canonicalForm textEntries t b a ns′ ms′
+text-filled t b ns ms a ns′ ms′ h r = go (reading (nodeRoom ns) (numberRoom ms) b) refl h
   where
-    go : some (textOf text nodes numbers) ≡ some (textOf text′ nodes′ numbers′) → textOf text nodes numbers ≡ textOf text′ nodes′ numbers′
-    go e = cc
+    go : (g : Got) → reading (nodeRoom ns) (numberRoom ms) b ≡ g → treeRead g ≡ some t → Filled canonicalForm textEntries t b a ns′ ms′
+    go (ok (out rs ss)) e h =
+        let o : TreesOwn depthLimit rs (spanTexts ss) t = trees-own depthLimit rs (spanTexts ss) t h in
+        let n : length rs ≡ length (rows depthLimit t) = ap length (o .its-rows) in
+        let m : length ss ≡ length (texts depthLimit t) = sym (length-map ss spanText) ∙ ap length (o .its-texts) in
+        record { answer = left b ns ms a ns′ ms′ rs ss r e .answer ∙ rw (n, m); tree = its-store b ns ms a ns′ ms′ rs ss r e t h }
+    go (refused f) e h = let z : _≡_ {A = ℕ} 0 1 = cc in absurd (omega arith)
+    go (halt f) e h = let z : _≡_ {A = ℕ} 0 1 = cc in absurd (omega arith)
+
+lawful : Lawful canonicalForm textEntries
+lawful =
+    record {
+      keeps = text-back;
+      told = λ n. refl;
+      writes = λ text nodes numbers t room r bytes e f h c. said text nodes numbers (canonicalText t) room r bytes (tree-text text nodes numbers t e) h c;
+      reads = text-filled;
+    }
+
+pub one-writing-by-calls : OneWritingByCalls
+one-writing-by-calls = one-tree-one-writing canonicalForm textEntries lawful
+
+pub one-writing-of-trees : OneWritingOfTrees
+one-writing-of-trees = (trees-equal canonicalForm text-back, trees-again canonicalForm text-back)
+
+-- ---- the same of the canonical text itself
+-- a store with a short canonical text: its tree, which fits
+record ShortTree (text nodes numbers : List ℕ) : Type 0 where
+  tree : Tree depthLimit
+  is : treeOf text nodes numbers ≡ some tree
+  its : textOf text nodes numbers ≡ canonicalText tree
+  fits : FitsText tree
+
+short-tree : (text nodes numbers : List ℕ) → Short text nodes numbers → ShortTree text nodes numbers
+unfolding textOf
+short-tree text nodes numbers s =
+    let g = grown text nodes numbers (s .well) in
+    let e : textOf text nodes numbers ≡ canonicalText (g .tree) = ap theText (tree-text text nodes numbers (g .tree) (g .is)) in
+    record { tree = g .tree; is = g .is; its = e; fits = record { good = store-tree text nodes numbers (g .tree) (g .is) .good; short = rw e at (s .short) } }
 
 pub one-writing : OneWriting
-one-writing text nodes numbers text′ nodes′ numbers′ s s′ = (forth, λ e. same-text text nodes numbers text′ nodes′ numbers′ (s .well) (s′ .well) (ap allRows (e .0)) (e .1))
-  where
-    forth : textOf text nodes numbers ≡ textOf text′ nodes′ numbers′ → (nodes ≡ nodes′) × (allTexts text numbers ≡ allTexts text′ numbers′)
-    forth e =
-        let u = one-store (allRows nodes) (allRows nodes′) (allTexts text numbers) (allTexts text′ numbers′) (textOf text nodes numbers) (lexemes text nodes numbers (s .well)) (lexemes text′ nodes′ numbers′ (s′ .well)) (s .short) (tree-text text nodes numbers (s .well)) (tree-text text′ nodes′ numbers′ (s′ .well) ∙ ap some (sym e)) in
-        (sym (own-nodes text nodes numbers (s .well)) ∙ ap flatRows (u .0) ∙ own-nodes text′ nodes′ numbers′ (s′ .well), u .1)
+one-writing text nodes numbers text′ nodes′ numbers′ s s′ =
+    let g = short-tree text nodes numbers s in
+    let g′ = short-tree text′ nodes′ numbers′ s′ in
+    let q = same-store text nodes numbers text′ nodes′ numbers′ (g .tree) (g′ .tree) (g .is) (g′ .is) in
+    ((λ e. q .0 (one-tree canonicalForm text-back (g .tree) (g′ .tree) (g .fits) (g′ .fits) (sym (g .its) ∙ e ∙ g′ .its))), λ e. g .its ∙ ap canonicalText (q .1 e) ∙ sym (g′ .its))
+
+pub reads-back : ReadsBack
+reads-back text nodes numbers ns ms a ns′ ms′ s hn hm r =
+    let g = short-tree text nodes numbers s in
+    tree-back canonicalForm textEntries lawful text nodes numbers (g .tree) (g .is) (g .fits) (textOf text nodes numbers) ns ms a ns′ ms′ (g .its) hn hm r
 
 -- ---- readings
 pub read-well : ReadWell
@@ -76,60 +116,12 @@ pub never-ill : NeverIll
 never-ill text ns ms a ns′ ms′ r z room w bs x e =
     let nodes : List ℕ = usedNodes a ns′ in
     let numbers : List ℕ = usedNumbers a ms′ in
-    let c = has-text text nodes numbers (read-well text ns ms a ns′ ms′ r z) in
-    let q : w ≡ answerOf (some (textOf text nodes numbers)) room = x .answer ∙ ap (λ o. answerOf o room) c in
+    let q : w ≡ answerOf (some (textOf text nodes numbers)) room = x .answer ∙ ap (λ o. answerOf o room) (has-text text numbers nodes (read-well text ns ms a ns′ ms′ r z)) in
     go (leb (length (textOf text nodes numbers)) room) (length (textOf text nodes numbers)) (sym (ap (λ (y : WriteAnswer). y .number) q) ∙ e)
   where
-    go : (b : Bool) (n : ℕ) → ((cond b (accepted n) (write.refused noRoom)) .number) ≡ illFormed → ⊥
+    go : (b : Bool) (n : ℕ) → ((cond b (accepted n) (write.refused noRoom)) .number) ≡ illFormedStore → ⊥
     go true n e = omega arith
     go false n e = omega arith
-
--- what a reading that gives a store's rows and number texts back leaves
-module _ (text nodes numbers ns ms : List ℕ) (a : ReadAnswer) (ns′ ms′ : List ℕ) (s : Short text nodes numbers) (r : Read (textOf text nodes numbers) ns ms a ns′ ms′)
-    (k : ReadBack (nodeRoom ns) (numberRoom ms) (textOf text nodes numbers) (allRows nodes) (allTexts text numbers)) where
-  abbrev b : List ℕ
-  b = textOf text nodes numbers
-
-  abbrev rs : List Row
-  rs = allRows nodes
-
-  count : length (allTexts text numbers) ≡ numberRoom numbers
-  count = length-map (allSpans text numbers) spanText ∙ spans-length text numbers (numberRoom numbers)
-
-  back-texts : allTexts b (usedNumbers a ms′) ≡ allTexts text numbers
-  back-texts = ap spanTexts (its-spans b ns ms a ns′ ms′ rs (k .spans) r (k .reads)) ∙ k .its-texts
-
-  back-answer : a ≡ record { number = 0; place = 0; nodes = nodeRoom nodes; numbers = numberRoom numbers }
-  back-answer =
-      let n : length rs ≡ nodeRoom nodes = rows-length nodes (nodeRoom nodes) in
-      let m : length (k .spans) ≡ numberRoom numbers = sym (length-map (k .spans) spanText) ∙ ap length (k .its-texts) ∙ count in
-      left b ns ms a ns′ ms′ rs (k .spans) r (k .reads) .answer ∙ rw (n, m)
-
-  -- the text is written again
-  back-text : canonical b (usedNodes a ns′) (usedNumbers a ms′) ≡ some b
-  back-text =
-      let w = is-well b ns ms a ns′ ms′ rs (k .spans) r (k .reads) in
-      has-text b (usedNodes a ns′) (usedNumbers a ms′) w ∙ ap some (same-text b (usedNodes a ns′) (usedNumbers a ms′) text nodes numbers w (s .well) (its-rows b ns ms a ns′ ms′ rs (k .spans) r (k .reads)) back-texts)
-
-  backs : Back text nodes numbers b a ns′ ms′
-  backs =
-      record {
-        answer = back-answer;
-        same-nodes = its-nodes b ns ms a ns′ ms′ rs (k .spans) r (k .reads) ∙ own-nodes text nodes numbers (s .well);
-        same-texts = back-texts;
-        again =
-            λ room q bs h x. (
-              x .answer ∙ ap (λ o. answerOf o room) back-text ∙ rw (le-leb (length b) room h),
-              x .bytes ∙ ap (λ o. roomAfter o room) back-text ∙ rw (le-leb (length b) room h),
-            );
-      }
-
-pub reads-back : ReadsBack
-reads-back text nodes numbers ns ms a ns′ ms′ s hn hm r =
-    backs text nodes numbers ns ms a ns′ ms′ s r
-    (canonical-back (nodeRoom ns) (numberRoom ms) (allRows nodes) (allTexts text numbers) (textOf text nodes numbers) (lexemes text nodes numbers (s .well)) (tree-text text nodes numbers (s .well)) (s .short)
-    (rw (rows-length nodes (nodeRoom nodes)) hn)
-    (rw (length-map (allSpans text numbers) spanText, spans-length text numbers (numberRoom numbers)) hm))
 
 pub reads-again : ReadsAgain
 reads-again text ns ms a ns′ ms′ r z h ps qs c ps′ qs′ hn hm r′ =
@@ -137,25 +129,111 @@ reads-again text ns ms a ns′ ms′ r z h ps qs c ps′ qs′ hn hm r′ =
     (b .same-nodes, b .same-texts)
 
 -- ---- writers
-module _ (f : Writer) (m : MeetsWrite f) where
-  writes-point : (f point (1 ∷ 0 ∷ 1 ∷ []) (7 ∷ 2 ∷ 11 ∷ 2 ∷ []) 13 .answer ≡ accepted 13) × (f point (1 ∷ 0 ∷ 1 ∷ []) (7 ∷ 2 ∷ 11 ∷ 2 ∷ []) 13 .bytes ≡ bytes "POINT(++4 -4)")
-  writes-point = let w = m point (1 ∷ 0 ∷ 1 ∷ []) (7 ∷ 2 ∷ 11 ∷ 2 ∷ []) 13 in (w .answer ∙ ap (λ o. answerOf o 13) point-text, w .bytes ∙ ap (λ o. roomAfter o 13) point-text)
+-- one that meets the contract says that it wrote the canonical text
+meets-said : (f : Writer) → MeetsWrite f → (text nodes numbers : List ℕ) (room : ℕ) → wellFormed text nodes numbers ≡ true → f text nodes numbers room .answer .number ≡ 0 → saidBy (f text nodes numbers room) ≡ textOf text nodes numbers
+meets-said f m text nodes numbers room w z = go (leb (length b) room) refl
+  where
+    b : List ℕ
+    b = textOf text nodes numbers
 
-  writes-empty : (f [] (1 ∷ 0 ∷ 0 ∷ []) [] 13 .answer ≡ accepted 11) × (f [] (1 ∷ 0 ∷ 0 ∷ []) [] 13 .bytes ≡ padded (bytes "POINT EMPTY") 13)
-  writes-empty = let w = m [] (1 ∷ 0 ∷ 0 ∷ []) [] 13 in (w .answer ∙ ap (λ o. answerOf o 13) empty-text, w .bytes ∙ ap (λ o. roomAfter o 13) empty-text)
+    its : Put
+    its = f text nodes numbers room
 
--- the byte after the name is `(` in one and a space in the other
+    go : (c : Bool) → leb (length b) room ≡ c → saidBy its ≡ b
+    go true l =
+        let q = said text nodes numbers b room (its .answer) (its .bytes) (has-text text numbers nodes w) (leb-true (length b) room l) (m text nodes numbers room) in
+        ap (λ (x : WriteAnswer). take (x .length) (its .bytes)) (q .0) ∙ ap (take (length b)) (q .1) ∙ front-of b (length b) room refl
+    go false l =
+        let a : its .answer ≡ write.refused noRoom = m text nodes numbers room .answer ∙ ap (λ o. answerOf o room) (has-text text numbers nodes w) ∙ rw l in
+        let e : _≡_ {A = ℕ} 23 0 = sym (ap (λ (x : WriteAnswer). x .number) a) ∙ z in
+        absurd (omega (arith, e))
+
+pub meets-back : MeetsBack
+meets-back f m =
+    record {
+      accepts =
+          λ text nodes numbers room s h. (let q = said text nodes numbers (textOf text nodes numbers) room (f text nodes numbers room .answer) (f text nodes numbers room .bytes) (has-text text numbers nodes (s .well)) (omega (arith, s .short)) (m text nodes numbers room) in
+          ap (λ (x : WriteAnswer). x .number) (q .0));
+      back =
+          λ text nodes numbers room s z ns ms a ns′ ms′ hn hm r. (let e = meets-said f m text nodes numbers room (s .well) z in
+          let b = reads-back text nodes numbers ns ms a ns′ ms′ s hn hm (rw e at r) in
+          (ap (λ (x : ReadAnswer). x .number) (b .answer), b .same-nodes, ap (λ (x : List ℕ). allTexts x (usedNumbers a ms′)) e ∙ b .same-texts));
+    }
+
+-- a store of one empty geometry
+all : ℕ
+unfolding cell firsts rowsIn spansIn every flatMap tree.onFront tree.asA tree.times tree.atMostOne tree.findParts tree.findNode tree.whole areWhole areNumbers treeOf wellFormed storeText textOf separated putNamed putDimension stringOf putWith
+all = 0
+
+abbrev empty : ℕ → List ℕ
+empty k = k ∷ 0 ∷ 0 ∷ []
+
+short-point : Short [] (empty kindPoint) []
+unfolding all
+short-point = record { well = refl; short = omega arith }
+
+short-line : Short [] (empty kindLineString) []
+unfolding all
+short-line = record { well = refl; short = omega arith }
+
+-- what a writer says it wrote of such a store, as it is read back
+module _ (f : Writer) (w : WritesBack f) (k : ℕ) (s : Short [] (empty k) []) where
+  abbrev itsText : List ℕ
+  itsText = saidBy (f [] (empty k) [] textLimit)
+
+  accepts-empty : f [] (empty k) [] textLimit .answer .number ≡ 0
+  accepts-empty = w .accepts [] (empty k) [] textLimit s (omega arith)
+
+  reads-empty : (a : ReadAnswer) (ns′ ms′ : List ℕ) → Read itsText (zeros 3) [] a ns′ ms′ → (a .number ≡ 0) × (usedNodes a ns′ ≡ empty k)
+  reads-empty a ns′ ms′ r = let b = w .back [] (empty k) [] textLimit s accepts-empty (zeros 3) [] a ns′ ms′ (omega arith) (omega arith) r in (b .0, b .1)
+
 pub no-fixed-text : NoWriter FixedText
-no-fixed-text f m bad =
-    let a = writes-point f m in
-    let b = writes-empty f m in
-    let e = bad point (1 ∷ 0 ∷ 1 ∷ []) (7 ∷ 2 ∷ 11 ∷ 2 ∷ []) [] (1 ∷ 0 ∷ 0 ∷ []) [] 13 (ap (λ (x : WriteAnswer). x .number) (a .0)) (ap (λ (x : WriteAnswer). x .number) (b .0)) in
-    let z : _≡_ {A = ℕ} 40 32 = ap (λ (x : List ℕ). getD x 5 0) (sym (a .1) ∙ e ∙ b .1) in
-    omega (arith, z)
+no-fixed-text f w bad = go _ _ _ (one-reader .0 .1 b (zeros 3) [])
+  where
+    b : List ℕ
+    b = saidBy (f [] (empty kindPoint) [] textLimit)
+
+    same : b ≡ saidBy (f [] (empty kindLineString) [] textLimit)
+    same = bad [] (empty kindPoint) [] [] (empty kindLineString) [] textLimit (accepts-empty f w kindPoint short-point) (accepts-empty f w kindLineString short-line)
+
+    go : (a : ReadAnswer) (ns′ ms′ : List ℕ) → Read b (zeros 3) [] a ns′ ms′ → ⊥
+    go a ns′ ms′ r =
+        let p = reads-empty f w kindPoint short-point a ns′ ms′ r in
+        let q = reads-empty f w kindLineString short-line a ns′ ms′ (rw same at r) in
+        let z : _≡_ {A = ℕ} 1 2 = ap (λ (x : List ℕ). getD x 0 0) (sym (p .1) ∙ q .1) in
+        omega (arith, z)
+
+-- no text, and none that starts with NUL, is accepted
+no-bytes : (N M : ℕ) → reading N M [] ≡ refused (refusal 8 0)
+unfolding reading root rootHead bind run lex lexRun flush geometry geometryBy walk firstIll
+no-bytes N M = refl
+
+nul-first : (N M : ℕ) (bs : List ℕ) (rs : List Row) (ss : List Span) → reading N M (nul ∷ bs) ≡ ok (out rs ss) → ⊥
+unfolding reading root rootHead geometry geometryBy bind run lex lexRun lexByte flush markTk
+nul-first N M bs rs ss e = go (overLimit (length (nul ∷ bs))) (isUtf8 (nul ∷ bs)) e
+  where
+    first : (l : Lexed) → answerIn (run (root N M enough depthLimit) (flush 0 (lexByte 0 nul l))) ≡ refused (refusal 8 0)
+    first l = refl
+
+    never : {f : Refusal} → refused f ≡ ok (out rs ss) → ⊥
+    never h = let z : _≡_ {A = ℕ} 0 1 = cc in omega (arith, z)
+
+    go : (a c : Bool) → cond a (refused (refusal 1 textLimit)) (cond c (answerIn (run (root N M enough depthLimit) (flush 0 (lexByte 0 nul (lexRun 1 bs))))) (refused (refusal 2 (firstIll (nul ∷ bs))))) ≡ ok (out rs ss) → ⊥
+    go true c h = never h
+    go false false h = never h
+    go false true h = never (sym (first (lexRun 1 bs)) ∙ h)
+
+silent : (N M l n : ℕ) (rs : List Row) (ss : List Span) → reading N M (take l (zeros n)) ≡ ok (out rs ss) → ⊥
+silent N M zero n rs ss e = let z : _≡_ {A = ℕ} 0 1 = cc (no-bytes N M) in omega (arith, z)
+silent N M (suc l) zero rs ss e = let z : _≡_ {A = ℕ} 0 1 = cc (no-bytes N M) in omega (arith, z)
+silent N M (suc l) (suc n) rs ss e = nul-first N M (take l (zeros n)) rs ss e
 
 pub no-empty-writer : NoWriter WritesNothing
-no-empty-writer f m bad =
-    let a = writes-point f m in
-    let e = bad point (1 ∷ 0 ∷ 1 ∷ []) (7 ∷ 2 ∷ 11 ∷ 2 ∷ []) 13 (ap (λ (x : WriteAnswer). x .number) (a .0)) in
-    let z : _≡_ {A = ℕ} 40 0 = ap (λ (x : List ℕ). getD x 5 0) (sym (a .1) ∙ e) in
-    omega (arith, z)
+no-empty-writer f w bad =
+    let e = accepts-empty f w kindPoint short-point in
+    let p = f [] (empty kindPoint) [] textLimit in
+    let b : saidBy p ≡ take (p .answer .length) (zeros textLimit) = ap (take (p .answer .length)) (bad [] (empty kindPoint) [] textLimit e) in
+    let r = one-reader .0 .1 (saidBy p) (zeros 3) [] in
+    let q = reads-empty f w kindPoint short-point _ _ _ r in
+    let o = accepts (saidBy p) (zeros 3) [] _ _ _ r (q .0) in
+    silent (nodeRoom (zeros 3)) (numberRoom []) (p .answer .length) textLimit (o .rows) (o .spans) (ap (reading (nodeRoom (zeros 3)) (numberRoom [])) (sym b) ∙ o .is)

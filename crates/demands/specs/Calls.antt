@@ -9,7 +9,7 @@ use Rattle.tokenizer.specs.Tokens.{takeAt, lookAt}
 use Rattle.store.specs.Rows.{nodeWidth, numberWidth, nodeRoom, numberRoom}
 use Rattle.infer_type.specs.declared.Inferred.{Inferred}
 use Rattle.infer_type.specs.Infer.{inferType}
-use Rattle.grammar.specs.Whole.{reading}
+use Rattle.grammar.specs.Reading.{reading}
 use Rattle.wkt.specs.declared.ReadAnswer.{ReadAnswer}
 use Rattle.wkt.specs.Whole.{Leaves}
 use Rattle.strict.specs.declared.StrictAnswer.{StrictAnswer}

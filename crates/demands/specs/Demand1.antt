@@ -1,29 +1,40 @@
 -- Demand 1: one outcome for all input, refused or not, over the u32 slices as the entries see them. The theorems that give these are in proofs/Demand1.
 use mathlib.Core.Path.{_≡_}
 use mathlib.Core.Bool.{Bool, true, false, _||_, _&&_}
-use mathlib.Core.Logic.{_⊎_}
-use mathlib.Core.List.{List}
+use mathlib.Core.Logic.{_⊎_, _↔_}
+use mathlib.Core.Option.{some}
+use mathlib.Core.List.{List, [], _∷_, _++_}
 use Prim.Native.Nat.{ℕ, _≤_, _<_}
 use lib.Dec.{eqb, leb}
 use lib.ListN.{length}
+use Rattle.limits.specs.Limits.{overLimit}
+use Rattle.utf8.specs.Utf8.{isUtf8}
 use Rattle.tokenizer.specs.declared.Cursor.{Cursor}
 use Rattle.tokenizer.specs.declared.Step.{Step}
-use Rattle.tokenizer.specs.Stream.{hd, tl, tokIn, stream}
-use Rattle.store.specs.Rows.{nodeRoom, numberRoom, zeros, padded}
+use Rattle.tokenizer.specs.Stream.{Str, hd, tl, tokIn, toks, stream}
+use Rattle.store.specs.Rows.{Row, Span, nodeRoom, numberRoom, flatRows, flatSpans, zeros, padded}
 use Rattle.infer_type.specs.declared.Inferred.{Inferred}
-use Rattle.infer_type.specs.Refusals.{textTooLong, illFormedUtf8, unsupportedName, neitherParenNorEmpty, nonAscii}
+use Rattle.refusals.specs.Refusals.{textTooLong, illFormedUtf8, unsupportedName, neitherParenNorEmpty, nonAscii}
 use Rattle.infer_type.specs.Infer as infer
 use Rattle.infer_type.specs.Answers.{Answer}
 use Rattle.grammar.specs.Answers.{isRefusal, isHalt}
+use Rattle.grammar.specs.Grammar.{out}
 use Rattle.wkt.specs.declared.ReadAnswer.{ReadAnswer}
-use Rattle.shape.specs.Store.{wellFormed, illFormed}
+use Rattle.lists.specs.Lists.{All}
+use Rattle.shape.specs.declared.Visit.{Visit}
+use Rattle.shape.specs.declared.Met.{Met}
+use Rattle.shape.specs.declared.Met.the-variants.{Node}
+use Rattle.shape.specs.Store.{wellFormed, walkOf}
+use Rattle.refusals.specs.Refusals.{illFormedStore, noRoom}
 use Rattle.strict.specs.declared.StrictAnswer.{StrictAnswer}
-use Rattle.strict.specs.Rules.{letterA, letterD, noLetter}
+use Rattle.strict.specs.Rules.{noLetter}
 use Rattle.strict.specs.Strict.{answer}
+use Rattle.strict.specs.Outcome.{HoldsAt, Lowest}
 use Rattle.to_wkt.specs.declared.WriteAnswer.{WriteAnswer}
 use Rattle.to_wkt.specs.Canonical.{textOf}
-use Rattle.to_wkt.specs.Write.{noRoom, accepted, refused, Written}
+use Rattle.to_wkt.specs.Write.{accepted, refused, Written}
 use Rattle.demands.specs.Calls.{Read, usedNodes, usedNumbers, Checked, Inferring, Taken, LookedAt}
+use Rattle.demands.specs.Steps.{Came, read-whole}
 use Rattle.demands.specs.Faults.{PlaceOf}
 
 -- ---- the reader and the writer
@@ -47,9 +58,22 @@ pub record RefusedReading (text ns ms : List ℕ) (a : ReadAnswer) (ns′ ms′ 
 abbrev pub ReadRefuses : Type 0
 ReadRefuses = (text ns ms : List ℕ) (a : ReadAnswer) (ns′ ms′ : List ℕ) → Read text ns ms a ns′ ms′ → (a .number ≡ 0 → ⊥) → RefusedReading text ns ms a ns′ ms′
 
--- and the place by number: `PlaceOf` is the table, with what token can be at fault for what number
+-- and the place by number: `PlaceOf` is the table, with what token can be at fault for what number, and the step that gives it
 abbrev pub ReadPlaces : Type 0
-ReadPlaces = (text ns ms : List ℕ) (a : ReadAnswer) (ns′ ms′ : List ℕ) → Read text ns ms a ns′ ms′ → (a .number ≡ 0 → ⊥) → PlaceOf text (a .number) (a .place)
+ReadPlaces = (text ns ms : List ℕ) (a : ReadAnswer) (ns′ ms′ : List ℕ) → Read text ns ms a ns′ ms′ → (a .number ≡ 0 → ⊥) → PlaceOf (nodeRoom ns) (numberRoom ms) text (a .number) (a .place)
+
+-- an accepted reading takes the same steps (`Came`), until no node is open and the root is read; its rows are those of the steps
+abbrev pub ReadsBySteps : Type 0
+ReadsBySteps =
+    (text ns ms : List ℕ) (a : ReadAnswer) (ns′ ms′ : List ℕ) → Read text ns ms a ns′ ms′ → a .number ≡ 0 →
+    (rs : List Row) × (ss : List Span) × (s : Str) × Came (nodeRoom ns) (numberRoom ms) (toks text 0) [] read-whole (out rs ss) s × (usedNodes a ns′ ≡ flatRows rs) × (usedNumbers a ms′ ≡ flatSpans ss)
+
+-- "1 | text over 65,535 bytes", "2 | ill-formed UTF-8": exactly then
+abbrev pub ReadTooLong : Type 0
+ReadTooLong = (text ns ms : List ℕ) (a : ReadAnswer) (ns′ ms′ : List ℕ) → Read text ns ms a ns′ ms′ → a .number ≡ textTooLong ↔ overLimit (length text) ≡ true
+
+abbrev pub ReadIllFormed : Type 0
+ReadIllFormed = (text ns ms : List ℕ) (a : ReadAnswer) (ns′ ms′ : List ℕ) → Read text ns ms a ns′ ms′ → a .number ≡ illFormedUtf8 ↔ (overLimit (length text) ≡ false) × (isUtf8 text ≡ false)
 
 -- an accepted reading: "Number and place are 0 when accepted", no more rows than there is room for, and zeros after those that are used
 pub record AcceptedReading (ns ms : List ℕ) (a : ReadAnswer) (ns′ ms′ : List ℕ) : Type 0 where
@@ -64,11 +88,11 @@ ReadAccepts = (text ns ms : List ℕ) (a : ReadAnswer) (ns′ ms′ : List ℕ) 
 
 -- a refusal of `write`: 22 or 23 at place 0, and "A refusing writer zeroes its output"
 abbrev pub WriteRefuses : Type 0
-WriteRefuses = (text nodes numbers : List ℕ) (room : ℕ) (r : WriteAnswer) (bytes : List ℕ) → Written text nodes numbers room r bytes → (r .number ≡ 0 → ⊥) → ((r ≡ refused illFormed) ⊎ (r ≡ refused noRoom)) × (bytes ≡ zeros room)
+WriteRefuses = (text nodes numbers : List ℕ) (room : ℕ) (r : WriteAnswer) (bytes : List ℕ) → Written text nodes numbers room r bytes → (r .number ≡ 0 → ⊥) → ((r ≡ refused illFormedStore) ⊎ (r ≡ refused noRoom)) × (bytes ≡ zeros room)
 
 -- when each is answered: "The writer tests 22, then 23." "an accepting one zeroes what lies after the text"
 pub data Writing (text nodes numbers : List ℕ) (room : ℕ) : WriteAnswer → List ℕ → Type 0 where
-  no-store : wellFormed text nodes numbers ≡ false → Writing text nodes numbers room (refused illFormed) (zeros room)
+  no-store : wellFormed text nodes numbers ≡ false → Writing text nodes numbers room (refused illFormedStore) (zeros room)
   too-long : wellFormed text nodes numbers ≡ true → room < length (textOf text nodes numbers) → Writing text nodes numbers room (refused noRoom) (zeros room)
   fits : wellFormed text nodes numbers ≡ true → length (textOf text nodes numbers) ≤ room → Writing text nodes numbers room (accepted (length (textOf text nodes numbers))) (padded (textOf text nodes numbers) room)
 
@@ -81,9 +105,12 @@ OneChecked = (text nodes numbers : List ℕ) (r r′ : StrictAnswer) → Checked
 
 -- "22 [..] store ill formed [..] (strict check: letter and row 0)"; "First failing rule [..] with number 0": a letter and a node row, or none and 0
 pub data Verdict (text nodes numbers : List ℕ) : StrictAnswer → Type 0 where
-  ill-store : wellFormed text nodes numbers ≡ false → Verdict text nodes numbers (answer illFormed noLetter 0)
-  passes : wellFormed text nodes numbers ≡ true → Verdict text nodes numbers (answer 0 noLetter 0)
-  fails : {letter i : ℕ} → wellFormed text nodes numbers ≡ true → letterA ≤ letter → letter ≤ letterD → i < nodeRoom nodes → Verdict text nodes numbers (answer 0 letter i)
+  ill-store : wellFormed text nodes numbers ≡ false → Verdict text nodes numbers (answer illFormedStore noLetter 0)
+  -- all rules hold at every node
+  passes : {ms : List Met} → wellFormed text nodes numbers ≡ true → walkOf text nodes numbers ≡ some ms → All (HoldsAt text numbers) ms → Verdict text nodes numbers (answer 0 noLetter 0)
+  -- the rule fails at the node of that row, none with a lower letter does, and before that node none fails
+  fails : {letter : ℕ} (before : List Met) (v : Visit) (after : List Met) → wellFormed text nodes numbers ≡ true → walkOf text nodes numbers ≡ some (before ++ Node v ∷ after) →
+      All (HoldsAt text numbers) before → Lowest text numbers v letter → v .row < nodeRoom nodes → Verdict text nodes numbers (answer 0 letter (v .row))
 
 abbrev pub StrictAnswers : Type 0
 StrictAnswers = (text nodes numbers : List ℕ) (r : StrictAnswer) → Checked text nodes numbers r → Verdict text nodes numbers r
@@ -92,7 +119,8 @@ StrictAnswers = (text nodes numbers : List ℕ) (r : StrictAnswer) → Checked t
 abbrev pub OneInferred : Type 0
 OneInferred = (text : List ℕ) (r r′ : Inferred) → Inferring text r → Inferring text r′ → r ≡ r′
 
--- "Place", number by number: 1 at the limit, 2 where no whole character starts, 24 at the first such byte, 19 to 21 at the first byte after trimming
+-- each answer with its whole reason, so that the order is told too: 1, 2, 24, then 21, 20, 19. "Place": 1 at the limit, 2 where no whole character starts, 24
+-- at the first such byte, 19 to 21 at the first byte after trimming
 abbrev pub TypeAnswers : Type 0
 TypeAnswers = (text : List ℕ) (r : Inferred) → Inferring text r → Answer text r
 

@@ -6,18 +6,18 @@ use mathlib.Core.List.{List}
 use Prim.Native.Nat.{ℕ, _≤_}
 use lib.ListN.{length}
 use Rattle.limits.specs.Limits.{depthLimit}
-use Rattle.scan.specs.Text.{bytes}
+use Rattle.number.specs.Grammar.{Float}
 use Rattle.kinds.specs.Kinds.{kindMultiPoint, dimXY}
-use Rattle.store.specs.Rows.{row, rowAt, partsAt, startAt, nodeRoom, numberRoom, flatRows, padded}
+use Rattle.store.specs.Rows.{kindAt, dimensionAt, partsAt, startAt, nodeRoom, numberRoom, flatRows, padded}
 use Rattle.lists.specs.Lists.{All}
 use Rattle.grammar.specs.Answers.{Passes}
-use Rattle.grammar.specs.Edges.{Edge, reads, edges}
+use Rattle.grammar.specs.Edges.{Edge, reads, writes, edges}
 use Rattle.tree.specs.Tree.{Tree, Shape, rows, texts}
 use Rattle.wkt.specs.declared.ReadAnswer.{ReadAnswer}
 use Rattle.wkt.specs.Whole.{Leaves, rootIn}
 use Rattle.to_wkt.specs.declared.WriteAnswer.{WriteAnswer}
 use Rattle.to_wkt.specs.Write.{accepted, Written}
-use Rattle.bridge.specs.Rows.{allTexts}
+use Rattle.shape.specs.Store.{allTexts}
 use Rattle.demands.specs.Calls.{Read, usedNodes, usedNumbers}
 
 -- the reader is the grammar: what it answers and leaves is what the grammar's root reads the text's tokens to, if the text passes 1 and 2
@@ -37,19 +37,19 @@ pub record IsTheTree (text : List ℕ) (a : ReadAnswer) (ns′ ms′ : List ℕ)
 abbrev pub Counted : Type 0
 Counted = (text ns ms : List ℕ) (a : ReadAnswer) (ns′ ms′ : List ℕ) → Read text ns ms a ns′ ms′ → a .number ≡ 0 → IsTheTree text a ns′ ms′
 
--- ---- the inputs at the edges, each read into any slices with the edge's rooms, whatever they hold
+-- "Number texts follow Rust's documented grammar for `f64`'s `FromStr`": each kept text is of that grammar. (A token that isn't is a bad number: `TokensStart`.)
+abbrev pub NumberTexts : Type 0
+NumberTexts = (text ns ms : List ℕ) (a : ReadAnswer) (ns′ ms′ : List ℕ) → Read text ns ms a ns′ ms′ → a .number ≡ 0 → All Float (allTexts text (usedNumbers a ms′))
+
+-- ---- the inputs at the edges, each read into any slices with the edge's rooms, whatever they hold; and written again into any room for the text
 abbrev pub ReadsEdge : Edge → Type 0
 ReadsEdge (reads N M text g) = (ns ms : List ℕ) (a : ReadAnswer) (ns′ ms′ : List ℕ) → nodeRoom ns ≡ N → numberRoom ms ≡ M → Read text ns ms a ns′ ms′ → Leaves g ns ms a ns′ ms′
+ReadsEdge (writes N M text b) =
+    (ns ms : List ℕ) (a : ReadAnswer) (ns′ ms′ : List ℕ) → nodeRoom ns ≡ N → numberRoom ms ≡ M → Read text ns ms a ns′ ms′ →
+    (room : ℕ) (r : WriteAnswer) (out : List ℕ) → length b ≤ room → Written text (usedNodes a ns′) (usedNumbers a ms′) room r out → (r ≡ accepted (length b)) × (out ≡ padded b room)
 
 abbrev pub EveryEdge : Type 0
 EveryEdge = All ReadsEdge edges
-
--- "`POINT(++4 +-4)`: [..] written `POINT(++4 -4)`"
-abbrev pub EdgeWritten : Type 0
-EdgeWritten =
-    (ns ms : List ℕ) (a : ReadAnswer) (ns′ ms′ : List ℕ) → nodeRoom ns ≡ 40 → numberRoom ms ≡ 9 → Read (bytes "POINT(++4 +-4)") ns ms a ns′ ms′ →
-    (room : ℕ) (r : WriteAnswer) (out : List ℕ) → 13 ≤ room → Written (bytes "POINT(++4 +-4)") (usedNodes a ns′) (usedNumbers a ms′) room r out →
-    (r ≡ accepted 13) × (out ≡ padded (bytes "POINT(++4 -4)") room)
 
 -- ---- what is shut out
 -- what a call leaves; a reader, as a function of the text and the two slices lent; one that meets the contract of `read`
@@ -78,11 +78,11 @@ FixedTree f =
     (text ns ms text′ ns′ ms′ : List ℕ) → f text ns ms .answer .number ≡ 0 → f text′ ns′ ms′ .answer .number ≡ 0 →
     usedNodes (f text ns ms .answer) (f text ns ms .nodes) ≡ usedNodes (f text′ ns′ ms′ .answer) (f text′ ns′ ms′ .nodes)
 
--- "a reader that fills only the first child and repeats it" (wkt/first_child_again): an accepted multipoint's second point is left without parts,
+-- "a reader that fills only the first child and repeats it" (grammar/first_child_again): an accepted multipoint's second point is left without parts,
 -- or has the first one's X
 abbrev pub FirstChildOnly : Reader → Type 0
 FirstChildOnly f =
-    (text ns ms : List ℕ) → f text ns ms .answer .number ≡ 0 → rowAt (f text ns ms .nodes) 0 ≡ row kindMultiPoint dimXY 2 →
+    (text ns ms : List ℕ) → f text ns ms .answer .number ≡ 0 → kindAt (f text ns ms .nodes) 0 ≡ kindMultiPoint → dimensionAt (f text ns ms .nodes) 0 ≡ dimXY → partsAt (f text ns ms .nodes) 0 ≡ 2 →
     (partsAt (f text ns ms .nodes) 2 ≡ 0) ⊎ (startAt (f text ns ms .numbers) 2 ≡ startAt (f text ns ms .numbers) 0)
 
 -- "is shut out by demand 2"

@@ -3,12 +3,14 @@
 use mathlib.Core.Path.{_≡_}
 use mathlib.Core.Bool.{true, false}
 use mathlib.Core.Logic.{_⊎_}
-use mathlib.Core.List.{List}
+use mathlib.Core.List.{List, []}
 use Prim.Native.Nat.{ℕ, zero, suc, _<_}
 use lib.ListN.{length, getD}
 use Rattle.limits.specs.Limits.{textLimit, overLimit}
 use Rattle.scan.specs.Bytes.{nul, parenOpen, parenClose, comma, isAscii, isInner, isNumberlike}
 use Rattle.scan.specs.Front.{part}
+use Rattle.number.specs.Grammar.{Float}
+use Rattle.refusals.specs.Refusals.{textTooLong, illFormedUtf8, noNodeRow, noNumberRow, tooDeep, badNumber, nonAsciiRoot, noRoot, unknownName, noHeader, unknownHeader, notOpened, notClosed, noX, noY, noZ, noM, noChild}
 use Rattle.utf8.specs.Utf8.{isUtf8, firstIll}
 use Rattle.names.specs.declared.Name.{Name}
 use Rattle.names.specs.declared.Ending.{Ending}
@@ -18,6 +20,7 @@ use Rattle.tokenizer.specs.Tokens.{textStart, endOf}
 use Rattle.tokenizer.specs.Stream.{open-tk, close-tk, comma-tk, none-tk, bad-tk, word-tk, number-tk, Tok, tok, Str, hd, tl, toks}
 use Rattle.grammar.specs.Answers.{Passes}
 use Rattle.grammar.specs.Grammar.{isEmptyTok}
+use Rattle.demands.specs.Steps.{Stopping, Refusing}
 use Rattle.grammar.specs.Tokens.{sortBad, sortOpen, sortClose, sortNumber, sortWord, sortOf, placeOf, textOf}
 
 -- neither a bad number nor of the sort that was asked for
@@ -25,32 +28,32 @@ abbrev pub Other : ℕ → Tok → Type 0
 Other sort t = (sortOf t ≡ sortBad → ⊥) × (sortOf t ≡ sort → ⊥)
 
 pub data AtFault (t : Tok) : ℕ → Type 0 where
-  -- "a node [..] needs a row and none is free | its token; bare point: the next token": `(`, EMPTY, or whatever stands there
-  no-node : AtFault t 3
+  -- "a node [..] needs a row and none is free | its token; bare point: the next token": `(`, EMPTY, or whatever stands there (`Stopping` says which, and why)
+  no-node : AtFault t noNodeRow
   -- "a number needs a row and none is free | its token"
-  no-number : sortOf t ≡ sortNumber → AtFault t 4
+  no-number : sortOf t ≡ sortNumber → AtFault t noNumberRow
   -- "a 33rd open collection | its `(`"
-  too-deep : sortOf t ≡ sortOpen → AtFault t 5
+  too-deep : sortOf t ≡ sortOpen → AtFault t tooDeep
   -- "A bad number that is taken gives 6."
-  bad-number : sortOf t ≡ sortBad → AtFault t 6
+  bad-number : sortOf t ≡ sortBad → AtFault t badNumber
   -- "Root: a word. A non-ASCII word is refused 7; a bad number 6; no token or any other token 8."
-  not-ascii : sortOf t ≡ sortWord → every isAscii (textOf t) ≡ false → AtFault t 7
-  no-root : Other sortWord t → AtFault t 8
+  not-ascii : sortOf t ≡ sortWord → every isAscii (textOf t) ≡ false → AtFault t nonAsciiRoot
+  no-root : Other sortWord t → AtFault t noRoot
   -- "Words are compared with the seven names [..]. Else refusal 9."
-  no-name : sortOf t ≡ sortWord → meaning (textOf t) ≡ Name.Unknown → AtFault t 9
+  no-name : sortOf t ≡ sortWord → meaning (textOf t) ≡ Name.Unknown → AtFault t unknownName
   -- "No token or a bad number: 10. [..] Another word: 11."
-  no-header : sortOf t < sortOpen → AtFault t 10
-  no-ending : sortOf t ≡ sortWord → ending (textOf t) ≡ Ending.No → isEmptyWord (textOf t) ≡ false → AtFault t 11
+  no-header : sortOf t < sortOpen → AtFault t noHeader
+  no-ending : sortOf t ≡ sortWord → ending (textOf t) ≡ Ending.No → isEmptyWord (textOf t) ≡ false → AtFault t unknownHeader
   -- "`EMPTY` gives no parts. Not `(`: 12." "anything but `)` gives 13"
-  not-opened : Other sortOpen t → isEmptyTok t ≡ false → AtFault t 12
-  not-closed : Other sortClose t → AtFault t 13
+  not-opened : Other sortOpen t → isEmptyTok t ≡ false → AtFault t notOpened
+  not-closed : Other sortClose t → AtFault t notClosed
   -- "X, Y, then Z, M as the dimension asks (14, 15, 16, 17)."
-  no-x : Other sortNumber t → AtFault t 14
-  no-y : Other sortNumber t → AtFault t 15
-  no-z : Other sortNumber t → AtFault t 16
-  no-m : Other sortNumber t → AtFault t 17
+  no-x : Other sortNumber t → AtFault t noX
+  no-y : Other sortNumber t → AtFault t noY
+  no-z : Other sortNumber t → AtFault t noZ
+  no-m : Other sortNumber t → AtFault t noM
   -- "Collection: a word (else 18)"
-  no-child : Other sortWord t → AtFault t 18
+  no-child : Other sortWord t → AtFault t noChild
 
 -- the tokens of a stream behind the first n
 abbrev pub later : ℕ → Str → Str
@@ -66,22 +69,29 @@ pub record Among (s : Str) (t : Tok) : Type 0 where
 abbrev pub ByteAt : List ℕ → ℕ → ℕ → Type 0
 ByteAt text p b = (p < length text) × (getD text p 0 ≡ b)
 
+-- "The kept number text is what follows the dropped `+`."
+abbrev pub numberText : List ℕ → ℕ → List ℕ
+numberText text p = part text (textStart text p) (endOf text (textStart text p))
+
 -- at its place a token starts: a mark is the byte there; a number or a bad number has its first byte there, be it a `+` that is dropped from the
--- kept text; a word has its bytes from there on; "for "no token", the NUL or the text's length"
+-- kept text, and a bad number is exactly one whose text isn't of the grammar of `f64`; a word has its bytes from there on; "for "no token", the NUL or
+-- the text's length"
 abbrev pub Starts : List ℕ → Tok → Type 0
 Starts text (tok p none-tk) = (p ≡ length text) ⊎ ByteAt text p nul
-Starts text (tok p (bad-tk r)) = isNumberlike (getD text p 0) ≡ true
+Starts text (tok p (bad-tk r)) = (isNumberlike (getD text p 0) ≡ true) × (Float (numberText text p) → ⊥)
 Starts text (tok p open-tk) = ByteAt text p parenOpen
 Starts text (tok p close-tk) = ByteAt text p parenClose
 Starts text (tok p comma-tk) = ByteAt text p comma
-Starts text (tok p (number-tk q x)) = (isNumberlike (getD text p 0) ≡ true) × (q ≡ textStart text p) × (x ≡ part text q (endOf text q))
+Starts text (tok p (number-tk q x)) = (isNumberlike (getD text p 0) ≡ true) × (q ≡ textStart text p) × (x ≡ numberText text p) × Float x
 Starts text (tok p (word-tk w)) = (isInner (getD text p 0) ≡ true) × (isNumberlike (getD text p 0) ≡ false) × (w ≡ part text p (endOf text p))
 
 abbrev pub TokensStart : Type 0
 TokensStart = (text : List ℕ) (t : Tok) → Among (toks text 0) t → Starts text t
 
--- ---- "Place", by number
-pub data PlaceOf (text : List ℕ) : ℕ → ℕ → Type 0 where
-  over-limit : overLimit (length text) ≡ true → PlaceOf text 1 textLimit
-  ill-formed : overLimit (length text) ≡ false → isUtf8 text ≡ false → PlaceOf text 2 (firstIll text)
-  at-fault : {e : ℕ} (t : Tok) → Passes text → Among (toks text 0) t → AtFault t e → PlaceOf text e (placeOf t)
+-- ---- "Given exactly when" and "Place", by number, with room for N node rows and M number rows. From 3 on: a token of the text that can be at fault, and the
+-- step that stops (3, 4 and 5, with the rows used and the collections open) or refuses (6 to 18, all nodes closed again), which was due where it stands
+pub data PlaceOf (N M : ℕ) (text : List ℕ) : ℕ → ℕ → Type 0 where
+  over-limit : overLimit (length text) ≡ true → PlaceOf N M text textTooLong textLimit
+  ill-formed : overLimit (length text) ≡ false → isUtf8 text ≡ false → PlaceOf N M text illFormedUtf8 (firstIll text)
+  stopped : {e : ℕ} {t : Tok} → Passes text → Among (toks text 0) t → AtFault t e → Stopping N M (toks text 0) t e → PlaceOf N M text e (placeOf t)
+  at-fault : {e : ℕ} {t : Tok} {s : Str} → Passes text → Among (toks text 0) t → AtFault t e → Refusing N M (toks text 0) [] t e s → PlaceOf N M text e (placeOf t)

@@ -1,1 +1,3 @@
 pub mod Lines
+pub mod Messages
+pub mod Shown

@@ -1,9 +1,9 @@
 -- Lines and characters of a text, by their places.
-use Prim.Native.Nat.{ℕ, zero, suc}
+use Prim.Native.Nat.{ℕ, zero, suc, _-_}
 use mathlib.Core.Bool.{Bool, cond, not, _||_, _&&_}
-use mathlib.Core.List.{List}
+use mathlib.Core.List.{List, [], _∷_}
 use lib.Dec.{eqb, ltb, leb}
-use lib.ListN.{length, getD}
+use lib.ListN.{length, getD, take, drop}
 
 -- LF and CR end a line
 abbrev pub isBreak : ℕ → Bool
@@ -20,6 +20,20 @@ goesOn b = leb 128 b && ltb b 192
 unfoldable pub lineStart : List ℕ → ℕ → ℕ
 lineStart text zero = 0
 lineStart text (suc p) = cond (isBreak (getD text p 0)) (suc p) (lineStart text p)
+
+-- how many line ends a byte is
+abbrev pub breakCount : ℕ → ℕ
+breakCount b = cond (isBreak b) 1 0
+
+-- where the line with the index n begins, counted from the front, or the end
+unfoldable pub lineFrom : List ℕ → ℕ → ℕ
+lineFrom [] n = 0
+lineFrom (b ∷ l) zero = 0
+lineFrom (b ∷ l) (suc n) = suc (lineFrom l (suc n - breakCount b))
+
+-- the line with the index n, with its end
+abbrev pub lineOf : List ℕ → ℕ → List ℕ
+lineOf l n = take (lineFrom (drop (lineFrom l n) l) 1) (drop (lineFrom l n) l)
 
 -- where the first p bytes end without the line ends behind them
 unfoldable pub trimmed : List ℕ → ℕ → ℕ

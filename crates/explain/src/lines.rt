@@ -3,7 +3,7 @@ ghost use mathlib.Core.Path.{_≡_};
 ghost use Prim.Native.Nat.{_≤_};
 ghost use lib.ListN.{length};
 ghost use Rattle.scan.specs.Runs.{firstNot};
-ghost use Rattle.explain.specs.Lines.{isBreak, isInLine, goesOn, lineStart, trimmed, shownPlace};
+ghost use Rattle.explain.specs.Lines.{isBreak, isInLine, goesOn, lineStart, breakCount, lineFrom, trimmed, shownPlace};
 
 // What ends a line: LF or CR.
 fn is_break(b: u8) -> bool
@@ -65,8 +65,17 @@ pub fn next_begin(text: &[u8], place: usize) -> usize
     text.len()
 }
 
+// How many line ends a byte is: one or none.
+fn breaks(b: u8) -> usize
+    ensures { λ r. ⌜ r ≡ breakCount b ⌝ }
+    ensures { λ r. ⌜ r ≤ 1 ⌝ }
+{
+    if is_break(b) { 1 } else { 0 }
+}
+
 // Where the line with the index `number` begins, or the end.
 pub fn line_at(text: &[u8], number: usize) -> usize
+    ensures { λ r. ⌜ r ≡ lineFrom (now (text .entry)) number ⌝ }
     ensures { λ r. ⌜ r ≤ length (now (text .entry)) ⌝ }
 {
     let mut left = number;
@@ -75,9 +84,7 @@ pub fn line_at(text: &[u8], number: usize) -> usize
         if left == 0 {
             return i;
         }
-        if is_break(text[i]) {
-            left -= 1;
-        }
+        left -= breaks(text[i]);
         i += 1;
     }
     i

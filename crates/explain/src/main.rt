@@ -8,31 +8,25 @@
 // and of a text that is read the counts of its nodes and numbers are told, as in `accepted 1 2`.
 mod characters;
 mod lines;
+mod message_lines;
 mod messages;
 
 use characters::put_part;
-use libc::STDIN_FILENO;
-use limits::TEXT_LIMIT;
+use console::INPUT_BYTES;
+use console::INPUT_LIMIT;
+use console::NODE_PLACES;
+use console::NUMBER_PLACES;
+use console::is_over;
+use console::put_line;
+use console::put_refusal;
+use console::read_input;
 use lines::next_begin;
 use messages::put_message;
 use printing::flush;
 use printing::least;
 use printing::put;
-use printing::put_spaced;
-use store::NODE_WIDTH;
-use store::NUMBER_WIDTH;
+use refusals::TEXT_TOO_LONG;
 use wkt::ReadAnswer;
-
-// One byte more than a text may have: what lies behind it is left unread.
-const INPUT_BYTES: usize = TEXT_LIMIT + 1;
-
-const NODE_ROWS: usize = 1_024;
-
-const NUMBER_ROWS: usize = 4_096;
-
-const NODE_PLACES: usize = NODE_ROWS * NODE_WIDTH;
-
-const NUMBER_PLACES: usize = NUMBER_ROWS * NUMBER_WIDTH;
 
 const OUTPUT_BYTES: usize = 4_096;
 
@@ -43,13 +37,6 @@ const SHOWN_BYTES: usize = 32;
 const DOTS: [u8; 3] = *b"...";
 
 const BLANKS: [u8; 3] = *b"   ";
-
-fn put_counts(out: &mut [u8], name: &[u8], first: usize, second: usize, tail: &[u8]) -> usize {
-    let named = put(out, 0, name);
-    let end = put_spaced(out, named, first);
-    let end = put_spaced(out, end, second);
-    put(out, end, tail)
-}
 
 // The last characters before a place, or the blanks under them, behind a mark for what is cut.
 fn put_before(out: &mut [u8], at: usize, before: &[u8], under: bool, mark: &[u8]) -> usize {
@@ -67,7 +54,7 @@ fn put_behind(out: &mut [u8], at: usize, behind: &[u8]) -> usize {
     put(out, end, &DOTS[0..cut])
 }
 
-fn put_line(out: &mut [u8], at: usize, before: &[u8], behind: &[u8]) -> usize {
+fn put_shown_line(out: &mut [u8], at: usize, before: &[u8], behind: &[u8]) -> usize {
     let end = put_before(out, at, before, false, &DOTS);
     let end = put_behind(out, end, behind);
     put(out, end, b"\n")
@@ -85,33 +72,36 @@ fn put_place(out: &mut [u8], at: usize, text: &[u8], place: usize) -> usize {
     let tail = &text[shown..];
     let start = lines::line_start(head);
     let stop = lines::line_end(tail, 0);
-    let end = put_line(out, at, &head[start..], &tail[0..stop]);
+    let end = put_shown_line(out, at, &head[start..], &tail[0..stop]);
     put_caret(out, end, &head[start..])
 }
 
-fn put_refusal(out: &mut [u8], text: &[u8], number: u32, place: usize) -> usize {
-    let end = put_counts(out, b"refused", number as usize, place, b": ");
+fn put_explained(out: &mut [u8], text: &[u8], number: u32, place: usize) -> usize {
+    let end = put_refusal(out, 0, number, place, b": ");
     let end = put_message(out, end, number);
     put_place(out, end, text, place)
 }
 
-fn put_answer(out: &mut [u8; OUTPUT_BYTES], text: &[u8], read: ReadAnswer) {
+fn put_answer(out: &mut [u8], text: &[u8], read: ReadAnswer) -> usize {
     if read.number != 0 {
-        let end = put_refusal(out, text, read.number, read.place);
-        flush(out, end);
-        return;
+        return put_explained(out, text, read.number, read.place);
     }
-    let end = put_counts(out, b"accepted", read.nodes, read.numbers, b"\n");
-    flush(out, end);
+    put_line(out, 0, b"accepted", read.nodes, read.numbers, b"\n")
 }
 
 // The slices come as arrays, whose types tell their lengths.
-fn read(
+fn print_answer(
     text: &[u8],
     nodes: &mut [u32; NODE_PLACES],
     numbers: &mut [u32; NUMBER_PLACES],
-) -> ReadAnswer {
-    wkt::read(text, nodes, numbers)
+    out: &mut [u8; OUTPUT_BYTES],
+) {
+    let end = if is_over(text) {
+        put_explained(out, text, TEXT_TOO_LONG, INPUT_LIMIT)
+    } else {
+        put_answer(out, text, wkt::read(text, nodes, numbers))
+    };
+    flush(out, end);
 }
 
 fn main() {
@@ -119,7 +109,6 @@ fn main() {
     let mut nodes = [0u32; NODE_PLACES];
     let mut numbers = [0u32; NUMBER_PLACES];
     let mut out = [0u8; OUTPUT_BYTES];
-    let count = io::read_full(STDIN_FILENO, &mut input);
-    let answer = read(&input[..count], &mut nodes, &mut numbers);
-    put_answer(&mut out, &input[..count], answer);
+    let count = read_input(&mut input);
+    print_answer(&input[..count], &mut nodes, &mut numbers, &mut out);
 }

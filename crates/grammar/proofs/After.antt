@@ -2,6 +2,7 @@
 -- Assumes nothing.
 use mathlib.Core.Path.{_≡_, refl, ap, sym, _∙_}
 use mathlib.Core.Bool.{Bool, true, false, cond}
+use mathlib.Core.Logic.{_⊎_, inl, inr}
 use mathlib.Core.List.{List, [], _∷_, _++_}
 use Prim.Native.Nat.{ℕ, zero, suc, _+_, _≤_, _<_}
 use native.Mathlib.Omega.{arith}
@@ -19,14 +20,14 @@ use Rattle.utf8.specs.Utf8.{isUtf8, firstIll}
 use Rattle.tokenizer.specs.Stream.{Tok, tok, none-tk, close-tk, Str, hd, tl}
 use Rattle.tokenizer.specs.Lex.{lex}
 use Rattle.lists.proofs.Cases.{either}
-use Rattle.grammar.specs.Demand.{P, ret, ask, look, bind, run, answerIn}
+use Rattle.grammar.specs.Asks.{P, ret, ask, look, bind, run, answerIn}
 use Rattle.grammar.specs.Tokens.{sortNone, sortOpen, sortClose, sortWord, sortOf, placeOf, textOf}
 use Rattle.grammar.specs.Grammar.{Out, out, Got, ok, refused, halt, Head, opens, empty, wrong, refusal, andThen, rowsUsed, closing, addNode, opened, isEmptyTok, opening, opener, headerEnding, header, byName, rootHead, lineIn, polygonIn, pointIn, multi, plain, geometryBy, collection, geometry, root}
-use Rattle.grammar.specs.Whole.{enough, reading}
-use Rattle.grammar.specs.Later.{lastOf, lastToken}
+use Rattle.grammar.specs.Reading.{enough, reading}
+use Rattle.grammar.specs.LastToken.{lastOf, lastToken, rootParts}
 use Rattle.grammar.specs.Answers.{Passes}
 use Rattle.grammar.proofs.Tokens.{TokIn, ToksIn, hd-in, tl-in, place-before, lex-in}
-use Rattle.grammar.proofs.Later.{later}
+use Rattle.grammar.proofs.Unread.{later}
 
 -- ---- whatever tokens a reader is fed, Q holds of its answer and the last token that it took or looked at (z, if there is none)
 abbrev Last : {A : Type 0} → (A → Tok → Type 0) → Tok → P A → Type 0
@@ -60,12 +61,12 @@ last-any z (ret a) = tt
 last-any z (ask k) = λ t. last-any t (k t)
 last-any z (look k) = λ t. last-any t (k t)
 
--- ---- an accepted root ends in a token
+-- ---- an accepted root ends in a token, and one that isn't EMPTY in a `)`
 abbrev Solid : Tok → Type 0
 Solid t = sortOf t ≡ sortNone → ⊥
 
 abbrev Ends : Got → Tok → Type 0
-Ends (ok o) t = Solid t
+Ends (ok o) t = Solid t × ((sortOf t ≡ sortClose) ⊎ (rootParts o ≡ 0))
 Ends (refused r) t = Unit {0}
 Ends (halt r) t = Unit {0}
 
@@ -80,7 +81,7 @@ solid t n e z = omega (arith, eqb-true (sortOf t) (suc n) e, z)
 
 close-ends : (z : Tok) (r : Got) → Last Ends z (closing r)
 unfolding closing
-close-ends z (ok o) = λ t. either (eqb (sortOf t) sortClose) (λ r. Ends r t) _ _ (λ e. solid t 2 e) λ e. tt
+close-ends z (ok o) = λ t. either (eqb (sortOf t) sortClose) (λ r. Ends r t) _ _ (λ e. (solid t 2 e, inl (eqb-true (sortOf t) sortClose e))) λ e. tt
 close-ends z (refused r) = λ t. either (eqb (sortOf t) sortClose) (λ r. Ends r t) _ _ (λ e. tt) λ e. tt
 close-ends z (halt r) = tt
 
@@ -143,18 +144,18 @@ module _ (N M F : ℕ) where
   collection-ends zero d p o z = tt
   collection-ends (suc n) d p o z = opened-ends N kindGeometryCollection d _ p o z
 
-  node-ends : (o : Out) (p k d : ℕ) (z : Tok) → Solid z → Ends (addNode N o p k d) z
-  node-ends (out rs ss) p k d z h = either (ltb (length rs) N) (λ r. Ends r z) _ _ (λ e. h) λ e. tt
+  node-ends : (p k d : ℕ) (z : Tok) → Solid z → Ends (addNode N (out [] []) p k d) z
+  node-ends p k d z h = either (ltb 0 N) (λ r. Ends r z) _ _ (λ e. (h, inr refl)) λ e. tt
 
-  geometry-ends : (n : ℕ) (o : Out) (h : Head) (z : Tok) → HeadEnds h z → Last Ends z (geometry N M F n o h)
+  geometry-ends : (n : ℕ) (h : Head) (z : Tok) → HeadEnds h z → Last Ends z (geometry N M F n (out [] []) h)
   unfolding geometry geometryBy
-  geometry-ends n o (opens k d p) z h = last-cond Ends (eqb k kindGeometryCollection) z _ _ (λ e. collection-ends n d p o z) λ e. plain-ends k d p o z
-  geometry-ends n o (empty k d p) z h = node-ends o p k d z h
-  geometry-ends n o (wrong r) z h = tt
+  geometry-ends n (opens k d p) z h = last-cond Ends (eqb k kindGeometryCollection) z _ _ (λ e. collection-ends n d p (out [] []) z) λ e. plain-ends k d p (out [] []) z
+  geometry-ends n (empty k d p) z h = node-ends p k d z h
+  geometry-ends n (wrong r) z h = tt
 
   root-ends : (n : ℕ) (z : Tok) → Last Ends z (root N M F n)
   unfolding root
-  root-ends n z = last-bind HeadEnds Ends z rootHead _ (root-head z) λ h t e. geometry-ends n (out [] []) h t e
+  root-ends n z = last-bind HeadEnds Ends z rootHead _ (root-head z) λ h t e. geometry-ends n h t e
 
 -- ---- and a token stands in the text
 last-in : {A : Type 0} (text : List ℕ) (p : P A) (s : Str) (z : Tok) → ToksIn text s → TokIn text z → TokIn text (lastOf p s z)
@@ -187,11 +188,21 @@ module _ (N M : ℕ) where
       → reading N M (xs ++ parenClose ∷ ys) ≡ reading N M (xs ++ parenClose ∷ zs)
   later-bytes xs ys zs a b h = passed (xs ++ parenClose ∷ ys) a ∙ later (root N M enough depthLimit) xs ys zs (tok 0 none-tk) h ∙ sym (passed (xs ++ parenClose ∷ zs) b)
 
+  ends : (text : List ℕ) (o : Out) → reading N M text ≡ ok o → Ends (ok o) (lastToken N M text)
+  ends text o e = rw (sym (passed text (accepted text o e)) ∙ e) at (last-run Ends (root N M enough depthLimit) (lex 0 text) (tok 0 none-tk) (root-ends N M enough depthLimit (tok 0 none-tk)))
+
   -- a reading that accepts takes its last token from the text
   pub last-inside : (text : List ℕ) (o : Out) → reading N M text ≡ ok o → placeOf (lastToken N M text) < length text
   last-inside text o e =
-      place-before text (lastToken N M text) (last-in text (root N M enough depthLimit) (lex 0 text) (tok 0 none-tk) (lex-in text) (omega arith))
-      (rw (sym (passed text (accepted text o e)) ∙ e) at (last-run Ends (root N M enough depthLimit) (lex 0 text) (tok 0 none-tk) (root-ends N M enough depthLimit (tok 0 none-tk))))
+      place-before text (lastToken N M text) (last-in text (root N M enough depthLimit) (lex 0 text) (tok 0 none-tk) (lex-in text) (omega arith)) (ends text o e .0)
+
+  -- and that token is a `)`, unless the root is EMPTY
+  pub ends-closed : (text : List ℕ) (o : Out) → reading N M text ≡ ok o → (rootParts o ≡ 0 → ⊥) → sortOf (lastToken N M text) ≡ sortClose
+  ends-closed text o e h = go (ends text o e .1)
+    where
+      go : (sortOf (lastToken N M text) ≡ sortClose) ⊎ (rootParts o ≡ 0) → sortOf (lastToken N M text) ≡ sortClose
+      go (inl c) = c
+      go (inr z) = absurd (h z)
 
   -- after an accepted root that ends in `)`, the last token taken, other bytes make no other rows
   pub after-root : (xs ys zs : List ℕ) (o : Out) → reading N M (xs ++ parenClose ∷ ys) ≡ ok o → lastToken N M (xs ++ parenClose ∷ ys) ≡ tok (length xs) close-tk → Passes (xs ++ parenClose ∷ zs)

@@ -16,13 +16,13 @@ use Rattle.names.specs.Names.{names, endings}
 use Rattle.names.specs.Strings.{empty}
 use Rattle.lists.proofs.Lists.{every-head, every-tail}
 use Rattle.utf8.specs.Utf8.{firstIll, isUtf8}
-use Rattle.utf8.proofs.Whole.{ascii-whole}
+use Rattle.utf8.proofs.Characters.{ascii-whole}
 use Rattle.lists.proofs.Cases.{either}
 use Rattle.lists.specs.Lists.{All}
 use Rattle.tree.specs.Tree.{pointN, lineN, polygonN, multipointN, multilineN, multipolygonN, collectionN, Tree, coordTexts, lineTexts, polygonTexts, nodeTexts, noTexts, texts, Lexeme}
-use Rattle.canonical_text.specs.Canonical.{needsPlus, spell, putNumber, each, separated, putCoord, putParts, putNamed, stringOf, putDimension, putWith, putPoint, putLine, putPolygon, putNode, putNothing, put}
+use Rattle.canonical_text.specs.Canonical.{needsPlus, spell, putSpelled, each, separated, putCoord, putParts, putNamed, stringOf, putDimension, putWith, putPoint, putLine, putPolygon, putGeometry, putNothing, putTree}
 use Rattle.grammar.proofs.Lexemes.{every-join, lexeme-ascii}
-use Rattle.grammar.proofs.Back.{all-flat}
+use Rattle.grammar.proofs.TokensBack.{all-flat}
 
 abbrev pub Ascii : List ℕ → Type 0
 Ascii l = every isAscii l ≡ true
@@ -35,7 +35,7 @@ Puts {X} Q f = (x : X) → Q x → (r : List ℕ) → Ascii r → Ascii (f x r)
 abbrev PutsOf : {X : Type 0} → (X → List (List ℕ)) → (X → List ℕ → List ℕ) → Type 0
 PutsOf nu f = Puts (λ x. All Lexeme (nu x)) f
 
-number-ascii : Puts Lexeme putNumber
+number-ascii : Puts Lexeme putSpelled
 unfolding Puts spell every
 number-ascii x g r a = every-join isAscii (spell x) r (either (begins needsPlus x) Ascii _ _ (λ e. lexeme-ascii x g) λ e. lexeme-ascii x g) a
 
@@ -81,7 +81,7 @@ module _ {X : Type 0} (nu : X → List (List ℕ)) (f : X → List ℕ → List 
       every-join isAscii (stringOf names k) _ (string-ascii names refl k) (dimension-ascii d (putNamed f xs r) (named-ascii (λ x. All Lexeme (nu x)) f h xs (all-flat nu xs l) r a))
 
 coord-ascii : PutsOf coordTexts putCoord
-coord-ascii = separated-ascii Lexeme putNumber number-ascii space refl
+coord-ascii = separated-ascii Lexeme putSpelled number-ascii space refl
 
 line-ascii : PutsOf lineTexts putLine
 line-ascii = list-ascii coordTexts putCoord coord-ascii
@@ -93,7 +93,7 @@ point-ascii : PutsOf coordTexts putPoint
 unfolding Puts All
 point-ascii c l r a = parts-ascii (λ x. All Lexeme (coordTexts x)) putCoord coord-ascii (c ∷ []) (l, tt) r a
 
-node-ascii : {X : Type 0} (nu : X → List (List ℕ)) (f : X → List ℕ → List ℕ) → PutsOf nu f → PutsOf (nodeTexts nu) (putNode f)
+node-ascii : {X : Type 0} (nu : X → List (List ℕ)) (f : X → List ℕ → List ℕ) → PutsOf nu f → PutsOf (nodeTexts nu) (putGeometry f)
 unfolding Puts
 node-ascii nu f h (pointN d xs) = with-ascii coordTexts putCoord coord-ascii kindPoint d xs
 node-ascii nu f h (lineN d xs) = with-ascii coordTexts putCoord coord-ascii kindLineString d xs
@@ -107,12 +107,12 @@ nothing-ascii : PutsOf {X = ⊥} noTexts putNothing
 unfolding Puts
 nothing-ascii x l r a = a
 
-put-ascii : (n : ℕ) → PutsOf (texts n) (put n)
+put-ascii : (n : ℕ) → PutsOf (texts n) (putTree n)
 put-ascii zero = node-ascii noTexts putNothing nothing-ascii
-put-ascii (suc n) = node-ascii (texts n) (put n) (put-ascii n)
+put-ascii (suc n) = node-ascii (texts n) (putTree n) (put-ascii n)
 
 -- the canonical text of a tree whose numbers are lexemes is ASCII
-pub tree-ascii : (n : ℕ) (t : Tree n) → All Lexeme (texts n t) → Ascii (put n t [])
+pub tree-ascii : (n : ℕ) (t : Tree n) → All Lexeme (texts n t) → Ascii (putTree n t [])
 unfolding Puts every
 tree-ascii n t l = put-ascii n t l [] refl
 

@@ -20,7 +20,7 @@ use Rattle.limits.specs.Limits.{textLimit, overLimit, depthLimit}
 use Rattle.utf8.specs.Utf8.{isUtf8}
 use Rattle.utf8.proofs.Walk.{in-text}
 use Rattle.store.specs.Rows.{Row, Span, span}
-use Rattle.store.proofs.Rows.{setParts-length}
+use Rattle.store.proofs.Rows.{closeIn-length}
 use Rattle.tokenizer.specs.declared.Refusal.{Refusal}
 use Rattle.tokenizer.specs.Stream.{Tok, Str, end, then, hd, tl, size}
 use Rattle.tokenizer.specs.Tokens.{cursorAt}
@@ -28,14 +28,14 @@ use Rattle.tokenizer.specs.Lex.{lex}
 use Rattle.tokenizer.proofs.Stream.{size-tl, stream-size}
 use Rattle.lists.proofs.Cases.{either}
 use Rattle.tokenizer.proofs.Bridge.{toks-lex}
-use Rattle.grammar.specs.Demand.{P, ret, ask, look, bind, Ran, ran, run, answerIn, leftIn}
+use Rattle.grammar.specs.Asks.{P, ret, ask, look, bind, Ran, ran, run, answerIn, leftIn}
 use Rattle.grammar.specs.Tokens.{sortOpen, sortClose, sortComma, sortNumber, sortWord, sortOf, placeOf, startOf, textOf}
 use Rattle.grammar.specs.Grammar.{Out, out, Got, ok, refused, halt, Head, opens, empty, wrong, refusal, andThen, fill, rowsUsed, items, closing, addNode, addNumber, number, thenNumber, ifAsked, coord, pointBody, opened, isEmptyTok, opening, opener, headerEnding, header, byName, childHead, rootHead, lineBody, parens, lineIn, lineOf, linesBody, polygonIn, polygonOf, polygonsBody, pointIn, barePoint, pointOf, pointsBody, multi, plain, geometryBy, childOf, collection, geometry, root}
-use Rattle.grammar.specs.Whole.{enough, reading}
+use Rattle.grammar.specs.Reading.{enough, reading}
 use Rattle.lists.specs.Lists.{All}
 use Rattle.grammar.specs.Answers.{Passes, isRefusal, Refused, Halted, Kept}
 use Rattle.tree.specs.TreeIn.{NumberIn, SpanIn}
-use Rattle.grammar.proofs.Demand.{after, run-bind}
+use Rattle.grammar.proofs.Asks.{after, run-bind}
 use Rattle.grammar.proofs.Tokens.{TokIn, ToksIn, hd-in, tl-in, place-in, refusal-in, number-in, lex-in}
 
 all-snoc : {A : Type 0} (Q : A → Type 0) (l : List A) (a : A) → All Q l → Q a → All Q (l ++ a ∷ [])
@@ -120,7 +120,7 @@ module _ (text : List ℕ) (N M : ℕ) where
     then-alike (halt r) f f′ h k = alike-ret GotIn L (halt r) h
 
     fill-in : (i n : ℕ) (o : Out) → OutIn o → OutIn (fill i n o)
-    fill-in i n (out rs ss) h = record { nodes = rw setParts-length (h .nodes); numbers = h .numbers; spans = h .spans }
+    fill-in i n (out rs ss) h = record { nodes = rw closeIn-length (h .nodes); numbers = h .numbers; spans = h .spans }
 
     node-in : (o : Out) (p k d : ℕ) → p ≤ length text → OutIn o → GotIn (addNode N o p k d)
     node-in (out rs ss) p k d l h =

@@ -1,12 +1,12 @@
-pub mod Demand
+pub mod Asks
 pub mod Loops
 pub mod Tokens
 pub mod Fuel
 pub mod WellRead
-pub mod Later
+pub mod Unread
 pub mod After
 pub mod Lexemes
 pub mod Lexing
-pub mod Back
+pub mod TokensBack
 pub mod Ascii
 pub mod Canon

@@ -10,7 +10,7 @@ use lib.ListN.{length, drop, length-append, length-drop}
 use lib.Seq.{drop-drop, take-append-seam}
 use Rattle.scan.specs.Bytes.{nul, parenOpen, parenClose, plus, isBlank, isStop, isNumberlike}
 use Rattle.number.specs.Lexeme.{isLexeme}
-use Rattle.tokenizer.specs.Tokens.{badNumber}
+use Rattle.tokenizer.specs.Tokens.{badNumberAt}
 use Rattle.tokenizer.specs.Stream.{Tk, open-tk, close-tk, comma-tk, none-tk, bad-tk, word-tk, number-tk, Tok, tok, Str, end, then, hd, tl}
 use Rattle.tokenizer.specs.Lex.{markTk, numberTk, runTk, Lexed, lexed, flush, push, lexByte, lexRun, lex}
 use Rattle.lists.proofs.Cases.{either}
@@ -88,7 +88,7 @@ module _ (text : List ℕ) where
   before-end : (p b : ℕ) (bs : List ℕ) → drop p text ≡ b ∷ bs → p < length text
   before-end p b bs e = let l : length text - p ≡ suc (length bs) = sym (length-drop p text) ∙ ap length e in omega arith
 
-  numberTk-in : (p q : ℕ) (b : ℕ) (bs x rest : List ℕ) → p < length text → drop q text ≡ x ++ rest → q ≤ length text → TkIn p (numberTk (badNumber p (b ∷ bs)) q x)
+  numberTk-in : (p q : ℕ) (b : ℕ) (bs x rest : List ℕ) → p < length text → drop q text ≡ x ++ rest → q ≤ length text → TkIn p (numberTk (badNumberAt p (b ∷ bs)) q x)
   unfolding numberTk
   numberTk-in p q b bs x rest h e l =
       let z : length text - q ≡ length x + length rest = sym (length-drop q text) ∙ ap length e ∙ length-append x rest in

@@ -16,17 +16,17 @@ use Rattle.lists.specs.Lists.{every}
 use Rattle.names.specs.Names.{spellings, lookup, meaning, ending, isEmptyWord}
 use Rattle.scan.specs.Bytes.{isAscii}
 use Rattle.lists.proofs.Lists.{every-head, every-tail}
-use Rattle.store.specs.Rows.{Row, row, Span, span, setParts}
-use Rattle.store.proofs.Rows.{setParts-seam}
+use Rattle.store.specs.Rows.{Row, freshRow, Span, span, closeIn}
+use Rattle.tree.proofs.Closed.{closed-rows}
 use Rattle.limits.specs.Limits.{overLimit, depthLimit}
 use Rattle.utf8.specs.Utf8.{isUtf8}
 use Rattle.tokenizer.specs.Stream.{Tok, Str, hd, tl}
 use Rattle.tokenizer.specs.Lex.{lex}
 use Rattle.lists.proofs.Cases.{either}
-use Rattle.grammar.specs.Demand.{P, ret, ask, look, bind, run, answerIn}
+use Rattle.grammar.specs.Asks.{P, ret, ask, look, bind, run, answerIn}
 use Rattle.grammar.specs.Tokens.{sortOpen, sortClose, sortComma, sortNumber, sortWord, sortOf, placeOf, startOf, textOf}
 use Rattle.grammar.specs.Grammar.{Out, out, Got, ok, refused, halt, Head, opens, empty, wrong, andThen, fill, items, closing, addNode, takeNumber, number, thenNumber, ifAsked, coord, pointBody, opened, isEmptyTok, opening, opener, headerEnding, header, byName, childHead, rootHead, lineBody, parens, lineIn, lineOf, linesBody, polygonIn, polygonOf, polygonsBody, pointIn, barePoint, pointOf, pointsBody, multi, plain, geometryBy, childOf, collection, geometry, root}
-use Rattle.grammar.specs.Whole.{enough, reading}
+use Rattle.grammar.specs.Reading.{enough, reading}
 use Rattle.lists.specs.Lists.{All}
 use Rattle.tree.specs.Tree.{Coord, Node, pointN, lineN, polygonN, multipointN, multilineN, multipolygonN, collectionN, rowsWith, noRows, pointRows, lineRows, polygonRows, nodeRows, rows, coordTexts, lineTexts, polygonTexts, nodeTexts, noTexts, texts, IsDimension, CoordShape, LineShape, PolygonShape, NodeShape, NoShape, Shape}
 use Rattle.tree.specs.TreeIn.{spanText, spanTexts, WellFormed}
@@ -141,7 +141,7 @@ module _ {X : Type 0} (ro : X → List Row) (nu : X → List (List ℕ)) (R : Li
     good : R things
     spans : List Span
     its-texts : spanTexts spans ≡ flatMap nu things
-    is : o ≡ out (setParts (rs ++ flatMap ro things) i (n + length things)) (ss ++ spans)
+    is : o ≡ out (closeIn (rs ++ flatMap ro things) i (n + length things)) (ss ++ spans)
 
   Lists : (ℕ → Out → P Got) → Type 0
   Lists body = (i : ℕ) (rs : List Row) (ss : List Span) → Every (Of (Listed i 0 rs ss)) (body i (out rs ss))
@@ -199,8 +199,7 @@ module _ {X : Type 0} (ro : X → List Row) (nu : X → List (List ℕ)) (Q : X 
 
 -- ---- a node row and its parts
 module _ (N : ℕ) {X : Type 0} (ro : X → List Row) (nu : X → List (List ℕ)) (R : List X → Type 0) (k d : ℕ) where
-  filled : (rs : List Row) (ss : List Span) (o : Out) → Listed ro nu R (length rs) 0 (rs ++ row k d 0 ∷ []) ss o → Added (rowsWith k d ro) (flatMap nu) R rs ss o
-  unfolding rowsWith
+  filled : (rs : List Row) (ss : List Span) (o : Out) → Listed ro nu R (length rs) 0 (rs ++ freshRow k d ∷ []) ss o → Added (rowsWith k d ro) (flatMap nu) R rs ss o
   filled rs ss o v =
       let e : 0 + length (v .things) ≡ length (v .things) = omega arith in
       record {
@@ -208,22 +207,22 @@ module _ (N : ℕ) {X : Type 0} (ro : X → List Row) (nu : X → List (List ℕ
         good = v .good;
         spans = v .spans;
         its-texts = v .its-texts;
-        is = v .is ∙ rw (append-assoc rs (row k d 0 ∷ []) (flatMap ro (v .things)), setParts-seam, e);
+        is = v .is ∙ rw (e, closed-rows k d ro (v .things) rs);
       }
 
-  row-adds : (p : ℕ) (body : Out → P Got) (rs : List Row) (ss : List Span) → Every (Of (Listed ro nu R (length rs) 0 (rs ++ row k d 0 ∷ []) ss)) (body (out (rs ++ row k d 0 ∷ []) ss))
+  row-adds : (p : ℕ) (body : Out → P Got) (rs : List Row) (ss : List Span) → Every (Of (Listed ro nu R (length rs) 0 (rs ++ freshRow k d ∷ []) ss)) (body (out (rs ++ freshRow k d ∷ []) ss))
       → Every (Of (Added (rowsWith k d ro) (flatMap nu) R rs ss)) (andThen (addNode N (out rs ss) p k d) body)
   unfolding andThen
   row-adds p body rs ss h =
       either (ltb (length rs) N) (λ g. Every (Of (Added (rowsWith k d ro) (flatMap nu) R rs ss)) (andThen g body)) _ _
-      (λ e. every-of (Listed ro nu R (length rs) 0 (rs ++ row k d 0 ∷ []) ss) (Added (rowsWith k d ro) (flatMap nu) R rs ss) (body (out (rs ++ row k d 0 ∷ []) ss)) (filled rs ss) h) λ e. tt
+      (λ e. every-of (Listed ro nu R (length rs) 0 (rs ++ freshRow k d ∷ []) ss) (Added (rowsWith k d ro) (flatMap nu) R rs ss) (body (out (rs ++ freshRow k d ∷ []) ss)) (filled rs ss) h) λ e. tt
 
   opened-adds : (body : ℕ → Out → P Got) → Lists ro nu R body → (p : ℕ) → Adds (rowsWith k d ro) (flatMap nu) R (opened N k d body p)
   unfolding Adds Lists opened
   opened-adds body h p rs ss =
       row-adds p (λ o1. bind (body (length rs) o1) closing) rs ss
-      (every-bind (Of (Listed ro nu R (length rs) 0 (rs ++ row k d 0 ∷ []) ss)) (Of (Listed ro nu R (length rs) 0 (rs ++ row k d 0 ∷ []) ss)) (body (length rs) (out (rs ++ row k d 0 ∷ []) ss)) closing
-      (h (length rs) (rs ++ row k d 0 ∷ []) ss) (close-every (Listed ro nu R (length rs) 0 (rs ++ row k d 0 ∷ []) ss)))
+      (every-bind (Of (Listed ro nu R (length rs) 0 (rs ++ freshRow k d ∷ []) ss)) (Of (Listed ro nu R (length rs) 0 (rs ++ freshRow k d ∷ []) ss)) (body (length rs) (out (rs ++ freshRow k d ∷ []) ss)) closing
+      (h (length rs) (rs ++ freshRow k d ∷ []) ss) (close-every (Listed ro nu R (length rs) 0 (rs ++ freshRow k d ∷ []) ss)))
 
   empty-adds : R [] → (p : ℕ) → Adds (rowsWith k d ro) (flatMap nu) R (λ o. ret (addNode N o p k d))
   unfolding Adds rowsWith flatMap
@@ -251,13 +250,13 @@ opener-names : (k d : ℕ) → Every (Names k d) (opener k d)
 unfolding opener opening
 opener-names k d = λ t. either (eqb (sortOf t) sortOpen) (Names k d) _ _ (λ e. (refl, refl)) λ e. either (isEmptyTok t) (Names k d) _ _ (λ f. (refl, refl)) λ f. tt
 
-abbrev isKind : ℕ → Bool
+abbrev pub isKind : ℕ → Bool
 isKind k = leb 1 k && leb k 7
 
-abbrev isDimension : ℕ → Bool
+abbrev pub isDimension : ℕ → Bool
 isDimension d = leb d 3
 
-abbrev knownName : Name → Bool
+abbrev pub knownName : Name → Bool
 knownName Name.Unknown = true
 knownName (Name.Bare k) = isKind k
 knownName (Name.Joined k d) = isKind k && isDimension d
@@ -272,7 +271,7 @@ lookup-every p test other w h [] e = h
 lookup-every p test other w h (entry ∷ table) e =
     either (test w (entry .1)) (λ a. p a ≡ true) _ _ (λ z. every-head (λ x. p (x .0)) entry table e) λ z. lookup-every p test other w h table (every-tail (λ x. p (x .0)) entry table e)
 
-name-known : (w : List ℕ) → knownName (meaning w) ≡ true
+pub name-known : (w : List ℕ) → knownName (meaning w) ≡ true
 unfolding meaning spellings every flatMap
 name-known w = lookup-every knownName _ Name.Unknown w refl spellings refl
 
@@ -353,7 +352,7 @@ module _ (N M F : ℕ) where
 
   bare-point : (d p : ℕ) → Adds (rowsWith kindPoint d noRows) (flatMap coordTexts) (One d) (barePoint N M F d p)
   unfolding barePoint Adds Lists
-  bare-point d p rs ss = row-adds N noRows coordTexts (One d) kindPoint d p (λ o1. pointBody M d (length rs) o1) rs ss (point-lists M d (length rs) (rs ++ row kindPoint d 0 ∷ []) ss)
+  bare-point d p rs ss = row-adds N noRows coordTexts (One d) kindPoint d p (λ o1. pointBody M d (length rs) o1) rs ss (point-lists M d (length rs) (rs ++ freshRow kindPoint d ∷ []) ss)
 
   point-either : (d : ℕ) → Adds (rowsWith kindPoint d noRows) (flatMap coordTexts) (One d) (pointOf N M F d)
   unfolding pointOf Adds
@@ -425,7 +424,7 @@ module _ (N M F : ℕ) where
       collection-node = as-node ro nu (All Q) kindGeometryCollection d (collectionN d) (λ ys. refl) (λ ys. refl) (λ cs r. (s, r)) _ (c d p)
 
     -- an empty node of each kind
-    empty-node : (k d : ℕ) → isKind k ≡ true → IsDimension d → (n : Node X) × (row k d 0 ∷ [] ≡ nodeRows ro n) × ([] ≡ nodeTexts nu n) × NodeShape Q n
+    empty-node : (k d : ℕ) → isKind k ≡ true → IsDimension d → (n : Node X) × (freshRow k d ∷ [] ≡ nodeRows ro n) × ([] ≡ nodeTexts nu n) × NodeShape Q n
     unfolding rowsWith flatMap All
     empty-node zero d e s = let z : _≡_ {A = ℕ} 0 1 = cc in absurd (omega arith)
     empty-node (suc zero) d e s = (pointN d [], refl, refl, (s, tt, omega arith))

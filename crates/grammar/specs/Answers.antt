@@ -6,6 +6,7 @@ use mathlib.Core.List.{List}
 use lib.Dec.{eqb, leb}
 use lib.ListN.{length}
 use Rattle.limits.specs.Limits.{overLimit}
+use Rattle.refusals.specs.Refusals.{textTooLong, illFormedUtf8, noNodeRow, tooDeep, badNumber, noChild}
 use Rattle.utf8.specs.Utf8.{isUtf8}
 use Rattle.store.specs.Rows.{Row, Span}
 use Rattle.tokenizer.specs.declared.Refusal.{Refusal}
@@ -19,11 +20,11 @@ pub record Passes (text : List ℕ) : Type 0 where
 
 -- "Refusal numbers": a text that is not looked at (1, 2), and what is met in it (6 to 18)
 abbrev pub isRefusal : ℕ → Bool
-isRefusal e = eqb e 1 || eqb e 2 || leb 6 e && leb e 18
+isRefusal e = eqb e textTooLong || eqb e illFormedUtf8 || leb badNumber e && leb e noChild
 
 -- "Refusals 3, 4 and 5 instead end the reading at once."
 abbrev pub isHalt : ℕ → Bool
-isHalt e = leb 3 e && leb e 5
+isHalt e = leb noNodeRow e && leb e tooDeep
 
 -- a refusal of a text has a number of the table, and a place in the text or at its end
 pub record Refused (text : List ℕ) (r : Refusal) : Type 0 where

@@ -1,8 +1,9 @@
--- "Inputs at the edges" (document 01) as one table: a room for nodes and one for numbers, a text, and what reading it comes to.
--- `every-edge` computes them all. The rows marked * there come first; those after them are others of that list and of its kind.
+-- "Inputs at the edges" (document 01) as one table: a room for nodes and one for numbers, a text, and what reading it comes to,
+-- or how what was read is written again.
+-- `every-edge` computes them all. The rows marked * there come first, and the one that is written comes last; those between are others of that list and of its kind.
 use mathlib.Core.Path.{_≡_, refl}
-use mathlib.Core.Bool.{Bool, true, false}
-use mathlib.Core.List.{List, [], _∷_, _++_, map, flatMap}
+use mathlib.Core.Option.{some, Option·map}
+use mathlib.Core.List.{List, [], _∷_, _++_, flatMap}
 use Prim.Native.Nat.{ℕ, zero, suc}
 use Rattle.scan.specs.Text.{bytes}
 use Rattle.scan.specs.Front.{begins, afterOne, afterAll, isNil}
@@ -11,23 +12,30 @@ use Rattle.number.specs.Lexeme.{isNamed, isDigits, isExponent, isDecimal, isUns
 use Rattle.kinds.specs.Kinds.{kindPoint, kindLineString, kindPolygon, kindMultiPoint, kindMultiLineString, kindMultiPolygon, kindGeometryCollection, dimXY, dimXYZ, dimXYM, dimXYZM}
 use Rattle.lists.specs.Lists.{every}
 use Rattle.names.specs.Names.{spellings, lookup, meaning, ending}
-use Rattle.store.specs.Rows.{Row, row, Span, span, setParts}
+use Rattle.store.specs.Rows.{Row, row, Span, span, closeIn}
 use Rattle.tokenizer.specs.Lex.{markTk, numberTk, runTk, flush, push, lexByte, lexRun, lex}
 use Rattle.utf8.specs.Utf8.{table, fits, firstFit, width, walk, firstIll}
-use Rattle.grammar.specs.Demand.{bind, run}
+use Rattle.grammar.specs.Asks.{bind, run}
 use Rattle.grammar.specs.Grammar.{Got, ok, refused, halt, out, refusal, andThen, items, closing, number, thenNumber, ifAsked, coord, pointBody, opened, opening, opener, header, childHead, rootHead, lineBody, parens, lineIn, lineOf, linesBody, polygonIn, polygonOf, polygonsBody, pointIn, barePoint, pointOf, pointsBody, multi, plain, geometryBy, childOf, collection, geometry, root}
-use Rattle.grammar.specs.Whole.{reading}
+use Rattle.grammar.specs.Reading.{reading, treeRead}
+use Rattle.kinds.specs.Kinds as kinds
+use Rattle.tree.specs.TreeIn as tree
+use Rattle.canonical_text.specs.Canonical as canonical
+use Rattle.canonical_text.specs.Canonical.{canonicalText}
 use Rattle.lists.specs.Lists.{All}
 
 pub data Edge : Type 0 where
   reads : ℕ → ℕ → List ℕ → Got → Edge
+  -- a text that is accepted, and the canonical text of the tree that it is read to
+  writes : ℕ → ℕ → List ℕ → List ℕ → Edge
 
 abbrev pub Holds : Edge → Type 0
 Holds (reads N M text g) = reading N M text ≡ g
+Holds (writes N M text b) = Option·map canonicalText (treeRead (reading N M text)) ≡ some b
 
-abbrev pub times : {A : Type 0} → ℕ → List A → List A
-times zero xs = []
-times (suc n) xs = xs ++ times n xs
+abbrev pub repeated : {A : Type 0} → ℕ → List A → List A
+repeated zero xs = []
+repeated (suc n) xs = xs ++ repeated n xs
 
 -- 京
 abbrev pub kyo : List ℕ
@@ -35,6 +43,13 @@ kyo = 0xE4 ∷ 0xBA ∷ 0xAC ∷ []
 
 abbrev pub nodes : List Row → List Span → Got
 nodes rs ss = ok (out rs ss)
+
+-- the rows of a point, and of a multipoint of two points
+abbrev pub onePoint : List Row
+onePoint = row kindPoint dimXY 1 ∷ []
+
+abbrev pub twoPoints : List Row
+twoPoints = row kindMultiPoint dimXY 2 ∷ row kindPoint dimXY 1 ∷ row kindPoint dimXY 1 ∷ []
 
 unfoldable pub edges : List Edge
 edges =
@@ -46,9 +61,9 @@ edges =
     ∷ reads 40 9 (bytes "POINT(+ 5)") (refused (refusal 13 8))
     ∷ reads 40 9 (bytes "POINT(1 \0)") (refused (refusal 15 8))
     ∷ reads 40 9 (bytes "POINT(1 ") (refused (refusal 13 8))
-    ∷ reads 40 9 (bytes "POINT(++4 +-4)") (nodes (row kindPoint dimXY 1 ∷ []) (span 7 2 (bytes "+4") ∷ span 11 2 (bytes "-4") ∷ []))
+    ∷ reads 40 9 (bytes "POINT(++4 +-4)") (nodes onePoint (span 7 2 (bytes "+4") ∷ span 11 2 (bytes "-4") ∷ []))
     ∷ reads 40 9 (bytes "MULTIPOINT((1 2),3 4)")
-    (nodes (row kindMultiPoint dimXY 2 ∷ row kindPoint dimXY 1 ∷ row kindPoint dimXY 1 ∷ []) (span 12 1 (bytes "1") ∷ span 14 1 (bytes "2") ∷ span 17 1 (bytes "3") ∷ span 19 1 (bytes "4") ∷ []))
+    (nodes twoPoints (span 12 1 (bytes "1") ∷ span 14 1 (bytes "2") ∷ span 17 1 (bytes "3") ∷ span 19 1 (bytes "4") ∷ []))
     ∷ reads 40 9 (bytes "POINTZ Z(1 2 3)") (refused (refusal 12 7))
     ∷ reads 40 9 (bytes "GEOMETRYCOLLECTION Z(POINT(1 2))")
     (nodes (row kindGeometryCollection dimXYZ 1 ∷ row kindPoint dimXY 1 ∷ []) (span 27 1 (bytes "1") ∷ span 29 1 (bytes "2") ∷ []))
@@ -57,10 +72,10 @@ edges =
     ∷ reads 40 9 (bytes "LINEARRING Z(1 2 3)") (nodes (row kindLineString dimXYZ 1 ∷ []) (span 13 1 (bytes "1") ∷ span 15 1 (bytes "2") ∷ span 17 1 (bytes "3") ∷ []))
     ∷ reads 40 9 (bytes "GEOMETRYCOLLECTION(" ++ kyo ++ bytes ")") (refused (refusal 9 19))
     ∷ reads 40 9 (bytes "GEOMETRYCOLLECTION(" ++ kyo ++ bytes "(1 2))") (refused (refusal 13 22))
-    ∷ reads 40 9 (times 32 (bytes "GEOMETRYCOLLECTION(") ++ bytes "POINT EMPTY" ++ times 32 (bytes ")"))
-    (nodes (times 32 (row kindGeometryCollection dimXY 1 ∷ []) ++ row kindPoint dimXY 0 ∷ []) [])
-    ∷ reads 40 9 (times 33 (bytes "GEOMETRYCOLLECTION(")) (halt (refusal 5 626))
-    ∷ reads 32 9 (times 33 (bytes "GEOMETRYCOLLECTION(")) (halt (refusal 5 626))
+    ∷ reads 40 9 (repeated 32 (bytes "GEOMETRYCOLLECTION(") ++ bytes "POINT EMPTY" ++ repeated 32 (bytes ")"))
+    (nodes (repeated 32 (row kindGeometryCollection dimXY 1 ∷ []) ++ row kindPoint dimXY 0 ∷ []) [])
+    ∷ reads 40 9 (repeated 33 (bytes "GEOMETRYCOLLECTION(")) (halt (refusal 5 626))
+    ∷ reads 32 9 (repeated 33 (bytes "GEOMETRYCOLLECTION(")) (halt (refusal 5 626))
     ∷ reads 0 9 (bytes "POINT(1 2)") (halt (refusal 3 5))
     ∷ reads 40 1 (bytes "POINT(1 2)") (halt (refusal 4 8))
     ∷ reads 1 9 (bytes "MULTIPOINT()") (halt (refusal 3 11))
@@ -79,14 +94,26 @@ edges =
     ∷ reads 40 9 (bytes "GEOMETRYCOLLECTION(POINT 4x)") (refused (refusal 6 25))
     ∷ reads 40 9 (bytes "GEOMETRYCOLLECTION(POINT \0)") (refused (refusal 13 25))
     ∷ reads 40 9 (bytes "GEOMETRYCOLLECTION(POINTZ \0)") (refused (refusal 12 26))
+    ∷ reads 40 9 (bytes "POINT Z(1 2 x)") (refused (refusal 16 12))
+    ∷ reads 40 9 (bytes "POINT ZM(1 2 3)") (refused (refusal 13 15))
+    ∷ reads 40 9 (bytes "POINT ZM(1 2 3 x)") (refused (refusal 17 15))
+    ∷ reads 40 9 (bytes "POINT\0(1 2)") (refused (refusal 10 5))
+    ∷ reads 40 9 (bytes "POINT Z\0(1 2 3)") (refused (refusal 12 7))
+    ∷ reads 40 9 (repeated 65536 (bytes " ")) (refused (refusal 1 65535))
+    ∷ writes 40 9 (bytes "POINT(++4 +-4)") (bytes "POINT(++4 -4)")
     ∷ []
 
 -- all that a reading computes with
-all : ℕ
-unfolding begins afterOne afterAll isNil sameWord isNamed isDigits isExponent isDecimal isUnsigned isLexeme every flatMap spellings lookup meaning ending setParts markTk numberTk runTk flush push lexByte lexRun lex table fits firstFit width walk firstIll bind run andThen items closing number thenNumber ifAsked coord pointBody opened opening opener header childHead rootHead lineBody parens lineIn lineOf linesBody polygonIn polygonOf polygonsBody pointIn barePoint pointOf pointsBody multi plain geometryBy childOf collection geometry root reading All
+unfoldable pub all : ℕ
+unfolding begins afterOne afterAll isNil sameWord isNamed isDigits isExponent isDecimal isUnsigned isLexeme every flatMap spellings lookup meaning ending closeIn markTk numberTk runTk flush push lexByte lexRun lex table fits firstFit width walk firstIll bind run andThen items closing number thenNumber ifAsked coord pointBody opened opening opener header childHead rootHead lineBody parens lineIn lineOf linesBody polygonIn polygonOf polygonsBody pointIn barePoint pointOf pointsBody multi plain geometryBy childOf collection geometry root reading All
 all = 0
 
+-- and what its writing again does besides
+allWritten : ℕ
+unfolding kinds.width tree.onFront tree.asA tree.times tree.findText tree.findRow tree.exactlyOne tree.atMostOne tree.findParts tree.findNode tree.whole canonical.spell canonical.each canonical.separated canonical.putParts canonical.putNamed canonical.putDimension canonical.stringOf canonical.putWith
+allWritten = 0
+
 pub every-edge : All Holds edges
-unfolding all edges
+unfolding all allWritten edges
 every-edge =
-    (refl, (refl, (refl, (refl, (refl, (refl, (refl, (refl, (refl, (refl, (refl, (refl, (refl, (refl, (refl, (refl, (refl, (refl, (refl, (refl, (refl, (refl, (refl, (refl, (refl, (refl, (refl, (refl, (refl, (refl, (refl, (refl, (refl, (refl, (refl, tt)))))))))))))))))))))))))))))))))))
+    (refl, (refl, (refl, (refl, (refl, (refl, (refl, (refl, (refl, (refl, (refl, (refl, (refl, (refl, (refl, (refl, (refl, (refl, (refl, (refl, (refl, (refl, (refl, (refl, (refl, (refl, (refl, (refl, (refl, (refl, (refl, (refl, (refl, (refl, (refl, (refl, (refl, (refl, (refl, (refl, (refl, (refl, tt))))))))))))))))))))))))))))))))))))))))))

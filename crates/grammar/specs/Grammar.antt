@@ -11,10 +11,10 @@ use Rattle.names.specs.Names.{meaning, ending, isEmptyWord}
 use Rattle.scan.specs.Bytes.{isAscii}
 use Rattle.lists.specs.Lists.{every}
 use Rattle.refusals.specs.Refusals.{noNodeRow, noNumberRow, tooDeep, nonAsciiRoot, noRoot, unknownName, noHeader, unknownHeader, notOpened, notClosed, noX, noY, noZ, noM, noChild}
-use Rattle.store.specs.Rows.{Row, row, Span, span, setParts}
+use Rattle.store.specs.Rows.{Row, freshRow, Span, span, closeIn}
 use Rattle.tokenizer.specs.declared.Refusal.{Refusal}
 use Rattle.tokenizer.specs.Stream.{Tok, Str}
-use Rattle.grammar.specs.Demand.{P, ret, ask, look, bind}
+use Rattle.grammar.specs.Asks.{P, ret, ask, look, bind}
 use Rattle.grammar.specs.Tokens.{sortNone, sortBad, sortOpen, sortClose, sortComma, sortNumber, sortWord, sortOf, placeOf, startOf, textOf, refusalAt}
 
 -- the node rows and the number rows used so far
@@ -47,7 +47,7 @@ andThen (halt r) f = ret (halt r)
 
 -- `parts` filled in after the children, in row i
 abbrev pub fill : ℕ → ℕ → Out → Out
-fill i n (out rs ss) = out (setParts rs i n) ss
+fill i n (out rs ss) = out (closeIn rs i n) ss
 
 abbrev pub rowsUsed : Out → ℕ
 rowsUsed (out rs ss) = length rs
@@ -73,7 +73,7 @@ closing (halt r) = ret (halt r)
 
 -- a node row is used where it can be, else 3 at the place p; a number row, else 4
 abbrev pub addNode : ℕ → Out → ℕ → ℕ → ℕ → Got
-addNode N (out rs ss) p k d = cond (ltb (length rs) N) (ok (out (rs ++ row k d 0 ∷ []) ss)) (halt (refusal noNodeRow p))
+addNode N (out rs ss) p k d = cond (ltb (length rs) N) (ok (out (rs ++ freshRow k d ∷ []) ss)) (halt (refusal noNodeRow p))
 
 abbrev pub addNumber : ℕ → Out → ℕ → ℕ → List ℕ → Got
 addNumber M (out rs ss) p q x = cond (ltb (length ss) M) (ok (out rs (ss ++ span q (length x) x ∷ []))) (halt (refusal noNumberRow p))

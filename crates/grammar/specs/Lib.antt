@@ -1,7 +1,9 @@
-pub mod Demand
+pub mod Asks
 pub mod Tokens
 pub mod Grammar
-pub mod Whole
+pub mod Reading
 pub mod Answers
-pub mod Later
+pub mod LastToken
 pub mod Edges
+pub mod Lasts
+pub mod Refused

@@ -1,58 +1,58 @@
 // Prints the kind and the dimension that the front of the text on standard input names, as `POINT XYZ`,
 // or the refusal's number and place, as `refused 19 0`.
+use console::INPUT_BYTES;
+use console::is_over;
+use console::put_refusal;
+use console::put_too_long;
+use console::read_input;
 use infer_type::Inferred;
-use libc::STDIN_FILENO;
-use libc::STDOUT_FILENO;
+use printing::flush;
+use printing::put;
 
-// One byte more than a text may have: what lies behind it is left unread.
-const INPUT_BYTES: usize = limits::TEXT_LIMIT + 1;
-
-fn print(text: &[u8]) {
-    io::write_all(STDOUT_FILENO, text);
-}
+const OUTPUT_BYTES: usize = 64;
 
 // By infer_type's answers a kind is one of the seven, and a dimension one of the four.
-fn print_kind(kind: u32) {
+fn put_kind(out: &mut [u8], kind: u32) -> usize {
     match kind {
-        kinds::KIND_POINT => print(&names::POINT),
-        kinds::KIND_LINESTRING => print(&names::LINESTRING),
-        kinds::KIND_POLYGON => print(&names::POLYGON),
-        kinds::KIND_MULTIPOINT => print(&names::MULTIPOINT),
-        kinds::KIND_MULTILINESTRING => print(&names::MULTILINESTRING),
-        kinds::KIND_MULTIPOLYGON => print(&names::MULTIPOLYGON),
-        _ => print(&names::GEOMETRYCOLLECTION),
+        kinds::KIND_POINT => put(out, 0, &names::POINT),
+        kinds::KIND_LINESTRING => put(out, 0, &names::LINESTRING),
+        kinds::KIND_POLYGON => put(out, 0, &names::POLYGON),
+        kinds::KIND_MULTIPOINT => put(out, 0, &names::MULTIPOINT),
+        kinds::KIND_MULTILINESTRING => put(out, 0, &names::MULTILINESTRING),
+        kinds::KIND_MULTIPOLYGON => put(out, 0, &names::MULTIPOLYGON),
+        _ => put(out, 0, &names::GEOMETRYCOLLECTION),
     }
 }
 
-fn print_dimension(dimension: u32) {
+fn put_dimension(out: &mut [u8], at: usize, dimension: u32) -> usize {
     match dimension {
-        kinds::DIM_XY => print(b"XY"),
-        kinds::DIM_XYZ => print(b"XYZ"),
-        kinds::DIM_XYM => print(b"XYM"),
-        _ => print(b"XYZM"),
+        kinds::DIM_XY => put(out, at, b" XY\n"),
+        kinds::DIM_XYZ => put(out, at, b" XYZ\n"),
+        kinds::DIM_XYM => put(out, at, b" XYM\n"),
+        _ => put(out, at, b" XYZM\n"),
     }
 }
 
-fn print_refusal(number: u32, place: usize) {
-    print(b"refused ");
-    io::print_decimal(STDOUT_FILENO, number as u64);
-    print(b" ");
-    io::print_decimal(STDOUT_FILENO, place as u64);
+fn put_inferred(out: &mut [u8], inferred: Inferred) -> usize {
+    if inferred.number != 0 {
+        return put_refusal(out, 0, inferred.number, inferred.place, b"\n");
+    }
+    let end = put_kind(out, inferred.kind);
+    put_dimension(out, end, inferred.dimension)
 }
 
-fn print_inferred(inferred: Inferred) {
-    if inferred.number == 0 {
-        print_kind(inferred.kind);
-        print(b" ");
-        print_dimension(inferred.dimension);
+fn print_inferred(text: &[u8], out: &mut [u8; OUTPUT_BYTES]) {
+    let end = if is_over(text) {
+        put_too_long(out, 0)
     } else {
-        print_refusal(inferred.number, inferred.place);
-    }
-    print(b"\n");
+        put_inferred(out, infer_type::infer_type(text))
+    };
+    flush(out, end);
 }
 
 fn main() {
     let mut input = [0u8; INPUT_BYTES];
-    let count = io::read_full(STDIN_FILENO, &mut input);
-    print_inferred(infer_type::infer_type(&input[..count]));
+    let mut out = [0u8; OUTPUT_BYTES];
+    let count = read_input(&mut input);
+    print_inferred(&input[..count], &mut out);
 }

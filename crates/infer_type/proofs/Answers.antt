@@ -1,12 +1,13 @@
--- Every answer is one of those of `Answer`: a refusal has one of six numbers, its place is what document 01 says, and zeros follow it.
+-- Every answer is one of those of `Answer`: a refusal has one of six numbers, with its whole reason, its place is what document 01 says, and zeros follow it.
 -- Assumes nothing.
 use Prim.Native.Nat.{ℕ, _≤_, _<_}
 use native.Mathlib.Omega.{arith}
 use mathlib.Core.Path.{_≡_, refl, sym, _∙_}
-use mathlib.Core.Bool.{Bool, true, false, cond, not, _&&_, and-eq-true-iff}
+use mathlib.Core.Bool.{Bool, true, false, false≢true, cond, not, _&&_, and-eq-true-iff}
+use mathlib.Core.Logic.{inl, inr}
 use mathlib.Core.List.{List, [], _∷_, map}
 use lib.Dec.{leb, ltb}
-use borrow.Author.Tests.{leb-true, ltb-true, le-ltb, not-true}
+use borrow.Author.Tests.{eqb-true, leb-true, ltb-true, ltb-false, le-ltb, not-true}
 use lib.ListN.{length, getD}
 use Rattle.limits.specs.Limits.{overLimit}
 use Rattle.scan.specs.Runs.{firstNot, Many}
@@ -23,17 +24,21 @@ use Rattle.names.specs.declared.Front.{Front}
 use Rattle.names.specs.declared.Front.the-variants.{Begun, Other}
 use Rattle.lists.proofs.Lists.{every-head, every-tail}
 use Rattle.infer_type.specs.declared.Inferred.{Inferred}
-use Rattle.infer_type.specs.Refusals.{emptyWithoutSpace, neitherParenNorEmpty}
-use Rattle.infer_type.specs.Part.{isTrimmed, isLooked, startAt, endAt, wideAt, looked}
+use Rattle.refusals.specs.Refusals.{emptyWithoutSpace, neitherParenNorEmpty}
+use Rattle.infer_type.specs.Part.{isTrimmed, isNoParen, isLooked, startAt, endAt, wideAt, looked}
 use Rattle.infer_type.specs.Search.{hasWord, before, after}
-use Rattle.infer_type.specs.Infer.{accepted, refused, named, blank, dimensionIn, withParen, withoutParen, inferLooked, inferType}
-use Rattle.infer_type.specs.Answers.{Start, Wide, Answer, is, long, ill, wide, noName, noSpace, neither}
+use Rattle.infer_type.specs.Infer.{accepted, refused, named, afterName, blank, dimensionIn, withParen, withoutParen, inferLooked, inferType}
+use Rattle.infer_type.specs.Answers.{Start, Wide, Looked, Paren, NoParen, Spaced, InRange, Answer, long, ill, wide, neither, noSpace, noName, namedParen, namedEmpty}
 use Rattle.infer_type.proofs.Part.{first-stop, end-fits, start-fits}
 
 -- what holds of both choices, each where its test holds, holds of the choice
 choice : {A : Type 0} (P : A → Type 0) (t : Bool) {x y : A} → (t ≡ true → P x) → (t ≡ false → P y) → P (cond t x y)
 choice P true f g = f refl
 choice P false f g = g refl
+
+not-false : (t : Bool) → not t ≡ false → t ≡ true
+not-false true e = refl
+not-false false e = absurd (false≢true (sym e))
 
 -- the kinds of the names are 1 to 7
 abbrev isKind : ℕ × List ℕ → Bool
@@ -97,55 +102,77 @@ module _ (text : List ℕ) where
       let inside : wideAt text < length text = omega (arith, end-fits text) in
       record { from = start-wide; within = inside; byte = wide-byte inside; looked = before-wide h }
 
-  named-answer : (name : Front) → HasKind name → (dimension : ℕ) → dimension ≤ dimXYZM → Answer text (named (startAt text) name dimension)
-  named-answer (Begun kind n) k dimension d = is (k .0) (k .1) d
-  named-answer Other k dimension d = noName starts
+  -- the part looked at, where 24 isn't answered
+  module _ (short : overLimit (length text) ≡ false) (utf8 : isUtf8 text ≡ true) where
+    looks : ltb (wideAt text) (endAt text) ≡ false → Looked text (startAt text) (endAt text)
+    unfolding endAt
+    looks t =
+        let e : firstNot isLooked text (startAt text) ≡ endAt text = omega (arith, first-stop text, ltb-false (wideAt text) (endAt text) t) in
+        record { short = short; utf8 = utf8; starts = starts; from = not-before isNoParen text (startAt text) (start-fits text); plain = rw e at (many-part isLooked text (startAt text) (start-fits text)) }
 
-  with-answer : (l : List ℕ) → Answer text (withParen (startAt text) l)
-  unfolding withParen
-  with-answer l = named-answer (front l) (front-kind l) _ (dimension-small _)
+    paren : endAt text < length text → Paren text (endAt text)
+    unfolding endAt
+    paren h = (h, eqb-true _ _ (not-false _ (first-fails isNoParen text (startAt text) h)))
 
-  without-answer : (l : List ℕ) → Answer text (withoutParen (startAt text) l)
-  unfolding withoutParen
-  without-answer l = go (hasWord empty l) (hasWord blank (before empty l))
-    where
-      go : (hasEmpty hasSpace : Bool) → Answer text (cond (not hasEmpty) (refused neitherParenNorEmpty (startAt text)) (cond (not hasSpace) (refused emptyWithoutSpace (startAt text)) (named (startAt text) (front l) (dimensionIn (after blank (before empty l))))))
-      go false hasSpace = neither starts
-      go true false = noSpace starts
-      go true true = named-answer (front l) (front-kind l) _ (dimension-small _)
+    in-range : (kind n : ℕ) → front (looked text) ≡ Begun kind n → (l : List ℕ) → InRange kind (dimensionIn l)
+    in-range kind n e l = let k : HasKind (Begun kind n) = rw e at (front-kind (looked text)) in (k .0, k .1, dimension-small l)
 
-  looked-answer : Answer text (inferLooked text)
-  unfolding inferLooked
-  looked-answer =
-      choice (Answer text) (ltb (wideAt text) (endAt text)) (λ t. wide starts (wides (ltb-true _ _ t)))
-      (λ t. choice (Answer text) (ltb (endAt text) (length text)) (λ u. with-answer (looked text))
-      (λ u. without-answer (looked text)))
+    with-answer : Looked text (startAt text) (endAt text) → Paren text (endAt text) → Answer text (withParen (startAt text) (looked text))
+    unfolding withParen
+    with-answer k p = go (front (looked text)) refl
+      where
+        go : (name : Front) → front (looked text) ≡ name → Answer text (named (startAt text) name (dimensionIn (afterName name (looked text))))
+        go (Begun kind n) e = namedParen k p e (in-range kind n e _)
+        go Other e = noName k (inl p) e
+
+    without-answer : Looked text (startAt text) (endAt text) → NoParen text (endAt text) → Answer text (withoutParen (startAt text) (looked text))
+    unfolding withoutParen
+    without-answer k p = go (hasWord empty (looked text)) (hasWord blank (before empty (looked text))) refl refl
+      where
+        by-name : Spaced (looked text) → (name : Front) → front (looked text) ≡ name → Answer text (named (startAt text) name (dimensionIn (after blank (before empty (looked text)))))
+        by-name s (Begun kind n) e = namedEmpty k p s e (in-range kind n e _)
+        by-name s Other e = noName k (inr (p, s)) e
+
+        go : (hasEmpty hasSpace : Bool) → hasWord empty (looked text) ≡ hasEmpty → hasWord blank (before empty (looked text)) ≡ hasSpace
+            → Answer text (cond (not hasEmpty) (refused neitherParenNorEmpty (startAt text)) (cond (not hasSpace) (refused emptyWithoutSpace (startAt text)) (named (startAt text) (front (looked text)) (dimensionIn (after blank (before empty (looked text)))))))
+        go false hasSpace e f = neither k p e
+        go true false e f = noSpace k p e f
+        go true true e f = by-name (e, f) (front (looked text)) refl
+
+    looked-answer : Answer text (inferLooked text)
+    unfolding inferLooked
+    looked-answer =
+        choice (Answer text) (ltb (wideAt text) (endAt text)) (λ t. wide short utf8 starts (wides (ltb-true _ _ t)))
+        (λ t. choice (Answer text) (ltb (endAt text) (length text)) (λ u. with-answer (looks t) (paren (ltb-true _ _ u)))
+        (λ u. without-answer (looks t) (omega (arith, end-fits text, ltb-false (endAt text) (length text) u))))
 
   pub inferType-answers : Answer text (inferType text)
   unfolding inferType
   inferType-answers =
       choice (Answer text) (overLimit (length text)) (λ t. long t)
-      (λ t. choice (Answer text) (not (isUtf8 text)) (λ u. ill (not-true _ u))
-      (λ u. looked-answer))
+      (λ t. choice (Answer text) (not (isUtf8 text)) (λ u. ill t (not-true _ u))
+      (λ u. looked-answer t (not-false _ u)))
 
   -- "Number and place are 0 when accepted, all after the place 0 when refused."
   accepts : {a : Inferred} → Answer text a → a .number ≡ 0 → a ≡ accepted (a .kind) (a .dimension)
-  accepts (is low high d) e = refl
+  accepts (namedParen k p f r) e = refl
+  accepts (namedEmpty k p s f r) e = refl
   accepts (long h) e = absurd (omega arith)
-  accepts (ill h) e = absurd (omega arith)
-  accepts (wide s w) e = absurd (omega arith)
-  accepts (noName s) e = absurd (omega arith)
-  accepts (noSpace s) e = absurd (omega arith)
-  accepts (neither s) e = absurd (omega arith)
+  accepts (ill h u) e = absurd (omega arith)
+  accepts (wide h u s w) e = absurd (omega arith)
+  accepts (noName k p f) e = absurd (omega arith)
+  accepts (noSpace k p f g) e = absurd (omega arith)
+  accepts (neither k p f) e = absurd (omega arith)
 
   refuses : {a : Inferred} → Answer text a → (a .number ≡ 0 → ⊥) → a ≡ refused (a .number) (a .place)
-  refuses (is low high d) n = absurd (n refl)
+  refuses (namedParen k p f r) n = absurd (n refl)
+  refuses (namedEmpty k p s f r) n = absurd (n refl)
   refuses (long h) n = refl
-  refuses (ill h) n = refl
-  refuses (wide s w) n = refl
-  refuses (noName s) n = refl
-  refuses (noSpace s) n = refl
-  refuses (neither s) n = refl
+  refuses (ill h u) n = refl
+  refuses (wide h u s w) n = refl
+  refuses (noName k p f) n = refl
+  refuses (noSpace k p f g) n = refl
+  refuses (neither k p f) n = refl
 
   pub inferType-accepts : inferType text .number ≡ 0 → inferType text ≡ accepted (inferType text .kind) (inferType text .dimension)
   inferType-accepts = accepts inferType-answers

@@ -17,7 +17,7 @@ use Rattle.utf8.specs.Utf8.{firstIll}
 use Rattle.names.specs.Strings.{empty}
 use Rattle.names.specs.Names.{front}
 use Rattle.names.specs.declared.Front.{Front}
-use Rattle.infer_type.specs.Refusals.{textTooLong, illFormedUtf8, unsupportedName, emptyWithoutSpace, neitherParenNorEmpty, nonAscii}
+use Rattle.refusals.specs.Refusals.{textTooLong, illFormedUtf8, unsupportedName, emptyWithoutSpace, neitherParenNorEmpty, nonAscii}
 use Rattle.infer_type.specs.Part.{isLooked, startAt, endAt}
 use Rattle.infer_type.specs.Search.{firstWord, before}
 use Rattle.infer_type.specs.Infer.{accepted, refused, named, blank, dimensionIn, withParen, withoutParen, inferLooked, inferType}

@@ -3,3 +3,4 @@ pub mod Dimension
 pub mod Part
 pub mod Infer
 pub mod Answers
+pub mod OneOutcome

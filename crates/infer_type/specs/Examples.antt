@@ -1,14 +1,18 @@
 -- Worked examples of this crate's definitions, by computation.
 use mathlib.Core.Path.{_≡_, refl}
 use mathlib.Core.List.{List, [], _∷_, _++_}
+use mathlib.Core.Bool.{not}
 use Prim.Native.Nat.{ℕ}
+use lib.Dec.{eqb}
+use lib.ListN.{replicate}
+use Rattle.lists.specs.Lists.{passing, bytesThat}
 use Rattle.scan.specs.Text.{bytes}
 use Rattle.scan.specs.Runs.{run, firstNot}
 use Rattle.words.specs.Words.{startsWord}
 use Rattle.utf8.specs.Utf8.{table, fits, firstFit, width, walk, firstIll}
 use Rattle.names.specs.Names.{lookup, front}
 use Rattle.infer_type.specs.declared.Inferred.{Inferred}
-use Rattle.infer_type.specs.Part.{startAt, endAt, wideAt}
+use Rattle.infer_type.specs.Part.{isTrimmed, isNoParen, startAt, endAt, wideAt}
 use Rattle.infer_type.specs.Search.{hasWord, firstWord}
 use Rattle.infer_type.specs.Infer.{accepted, refused, dimensionIn, withParen, withoutParen, inferLooked, inferType}
 
@@ -59,3 +63,42 @@ wides = (refl, refl, refl, refl)
 noBreak : answers (0xC2 ∷ 0xA0 ∷ bytes "POINT(") (refused 24 0)
 unfolding all
 noBreak = refl
+
+-- "Number and place are 0 when accepted, all after the place 0 when refused."
+records : (accepted 3 2 ≡ record { number = 0; place = 0; kind = 3; dimension = 2 }) × (refused 19 4 ≡ record { number = 19; place = 4; kind = 0; dimension = 0 })
+records = (refl, refl)
+
+-- ---- by the whole range of bytes
+-- "bytes 9 to 13 and 32"; all but `(` belong to the part looked at
+trimmed : (bytesThat isTrimmed ≡ 9 ∷ 10 ∷ 11 ∷ 12 ∷ 13 ∷ 32 ∷ []) × (bytesThat (λ b. not (isNoParen b)) ≡ 40 ∷ [])
+unfolding passing
+trimmed = (refl, refl)
+
+-- the bytes that may stand in front of `POINT(`; that make it a Z, an M; with which `EMPTY` may follow: a space, or a `(`
+fronts : (bytesThat (λ b. eqb (inferType (b ∷ bytes "POINT(") .number) 0) ≡ 9 ∷ 10 ∷ 11 ∷ 12 ∷ 13 ∷ 32 ∷ [])
+    × (bytesThat (λ b. eqb (inferType (bytes "POINT" ++ b ∷ 40 ∷ []) .dimension) 1) ≡ 90 ∷ 122 ∷ [])
+    × (bytesThat (λ b. eqb (inferType (bytes "POINT" ++ b ∷ 40 ∷ []) .dimension) 2) ≡ 77 ∷ 109 ∷ [])
+    × (bytesThat (λ b. eqb (inferType (bytes "POINT" ++ b ∷ bytes "EMPTY") .number) 0) ≡ 32 ∷ 40 ∷ [])
+unfolding all passing
+fronts = (refl, refl, refl, refl)
+
+-- each name with `(` and with EMPTY: kinds 1 to 7
+kinds : (answers (bytes "point(") (accepted 1 0)) × (answers (bytes "linestring(") (accepted 2 0)) × (answers (bytes "polygon(") (accepted 3 0)) × (answers (bytes "multipoint(") (accepted 4 0)) × (answers (bytes "multilinestring(") (accepted 5 0)) × (answers (bytes "multipolygon(") (accepted 6 0)) × (answers (bytes "geometrycollection(") (accepted 7 0)) × (answers (bytes "GEOMETRYCOLLECTION M EMPTY") (accepted 7 2))
+unfolding all
+kinds = (refl, refl, refl, refl, refl, refl, refl, refl)
+
+-- ---- the order of the refusals
+-- 2 before 24 before 19: `京` before E4 cut short, in the part looked at and behind it; then `京` alone
+order : (answers (0xE4 ∷ 0xBA ∷ 0xAC ∷ 0xE4 ∷ []) (refused 2 3)) × (answers (bytes "X(" ++ 0xE4 ∷ []) (refused 2 2)) × (answers (bytes "X" ++ 0xE4 ∷ 0xBA ∷ 0xAC ∷ bytes "(") (refused 24 1)) × (answers (bytes "X(" ++ 0xE4 ∷ 0xBA ∷ 0xAC ∷ []) (refused 19 0)) × (answers (bytes "XEMPTY" ++ 0xE4 ∷ 0xBA ∷ 0xAC ∷ []) (refused 24 6))
+unfolding all
+order = (refl, refl, refl, refl, refl)
+
+-- `🌍` is F0 9F 8C 8D, a character of four bytes: 24 at its first byte, 2 there where it is cut, nothing behind the `(`
+fours : (answers (bytes "POINT" ++ 0xF0 ∷ 0x9F ∷ 0x8C ∷ 0x8D ∷ bytes "(") (refused 24 5)) × (answers (bytes "POINT" ++ 0xF0 ∷ 0x9F ∷ 0x8C ∷ bytes "(") (refused 2 5)) × (answers (bytes "POINT(" ++ 0xF0 ∷ 0x9F ∷ 0x8C ∷ 0x8D ∷ []) (accepted 1 0)) × (answers (bytes "POINT(" ++ 0xF4 ∷ 0x90 ∷ 0x80 ∷ 0x80 ∷ []) (refused 2 6))
+unfolding all
+fours = (refl, refl, refl, refl)
+
+-- 1 before 2, at 65,535 whatever the length: texts of 65,536 and 65,537 bytes FF, and 70,000 of them behind `POINT(`
+long : (answers (replicate 65536 0xFF) (refused 1 65535)) × (answers (replicate 65537 0xFF) (refused 1 65535)) × (answers (bytes "POINT(" ++ replicate 70000 0xFF) (refused 1 65535))
+unfolding all
+long = (refl, refl, refl)

@@ -13,7 +13,7 @@ use Rattle.names.specs.Names.{front}
 use Rattle.names.specs.declared.Front.{Front}
 use Rattle.names.specs.declared.Front.the-variants.{Begun, Other}
 use Rattle.infer_type.specs.declared.Inferred.{Inferred}
-use Rattle.infer_type.specs.Refusals.{textTooLong, illFormedUtf8, unsupportedName, emptyWithoutSpace, neitherParenNorEmpty, nonAscii}
+use Rattle.refusals.specs.Refusals.{textTooLong, illFormedUtf8, unsupportedName, emptyWithoutSpace, neitherParenNorEmpty, nonAscii}
 use Rattle.infer_type.specs.Part.{startAt, endAt, wideAt, looked}
 use Rattle.infer_type.specs.Search.{hasWord, before, after}
 

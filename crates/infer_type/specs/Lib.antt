@@ -1,4 +1,3 @@
-pub mod Refusals
 pub mod Part
 pub mod Search
 pub mod Infer

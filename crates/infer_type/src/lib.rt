@@ -5,19 +5,12 @@ ghost use Rattle.infer_type.specs.Part.{isTrimmed, isLooked, startAt};
 ghost use Rattle.infer_type.specs.Search.{firstWord};
 ghost use Rattle.infer_type.specs.Infer.{accepted, refused, dimensionIn, withParen, withoutParen, inferLooked, inferType};
 use names::Front;
-
-// The refusals, by document 01's numbers.
-pub const TEXT_TOO_LONG: u32 = 1;
-
-pub const ILL_FORMED_UTF8: u32 = 2;
-
-pub const UNSUPPORTED_NAME: u32 = 19;
-
-pub const EMPTY_WITHOUT_SPACE: u32 = 20;
-
-pub const NEITHER_PAREN_NOR_EMPTY: u32 = 21;
-
-pub const NON_ASCII: u32 = 24;
+use refusals::EMPTY_WITHOUT_SPACE;
+use refusals::ILL_FORMED_UTF8;
+use refusals::NEITHER_PAREN_NOR_EMPTY;
+use refusals::NON_ASCII;
+use refusals::TEXT_TOO_LONG;
+use refusals::UNSUPPORTED_NAME;
 
 const LAST_ASCII: u8 = 0x7F;
 

@@ -1,10 +1,10 @@
 -- Which geometry a word names: the tables of names and endings, and what they make of a word.
 use Prim.Native.Nat.{ℕ}
-use mathlib.Core.Bool.{Bool, cond}
+use mathlib.Core.Bool.{Bool, true, cond}
 use mathlib.Core.List.{List, [], _∷_, _++_, map, flatMap}
 use lib.Dec.{eqb}
 use lib.ListN.{length}
-use Rattle.words.specs.Words.{sameWord, startsWord}
+use Rattle.words.specs.Words.{upper, sameWord, startsWord}
 use Rattle.names.specs.declared.Name.{Name}
 use Rattle.names.specs.declared.Ending.{Ending}
 use Rattle.names.specs.declared.Ending.the-variants.{Is, No}
@@ -68,8 +68,25 @@ ending w = lookup sameWord Ending.No (map endingRow endings) w
 abbrev pub frontRow : ℕ × List ℕ → Front × List ℕ
 frontRow name = (Front.Begun (name .0) (length (name .1)), name .1)
 
+abbrev pub frontIn : List (ℕ × List ℕ) → List ℕ → Front
+frontIn rows w = lookup startsWord Front.Other (map frontRow rows) w
+
 unfoldable pub front : List ℕ → Front
-front w = lookup startsWord Front.Other (map frontRow names) w
+front w = frontIn names w
+
+-- may a word whose first letter in upper case is b begin with this name
+abbrev pub mayBegin : ℕ → List ℕ → Bool
+mayBegin b [] = true
+mayBegin b (a ∷ l) = eqb b (upper a)
+
+-- the names that such a word may begin with
+abbrev pub initial : ℕ → List (ℕ × List ℕ) → List (ℕ × List ℕ)
+initial b [] = []
+initial b (name ∷ rows) = cond (mayBegin b (name .1)) (name ∷ initial b rows) (initial b rows)
+
+-- `M`
+abbrev pub capitalM : ℕ
+capitalM = 77
 
 -- "its words, and EMPTY, in any ASCII case"
 abbrev pub isEmptyWord : List ℕ → Bool

@@ -1,6 +1,7 @@
 // The names of the geometries, their endings, and the words that they make.
 ghost use mathlib.Core.Path.{_≡_};
-ghost use Rattle.names.specs.Names.{meaning, ending, isEmptyWord, front, afterName};
+ghost use mathlib.Core.List.{[], _∷_};
+ghost use Rattle.names.specs.Names.{names, meaning, ending, isEmptyWord, frontIn, initial, capitalM, front, afterName};
 use kinds::DIM_XY;
 use kinds::DIM_XYM;
 use kinds::DIM_XYZ;
@@ -87,32 +88,49 @@ pub fn is_empty_word(w: &[u8]) -> bool
     words::same_word(w, &EMPTY)
 }
 
-// The name that `w` begins with. No name begins with another.
-pub fn front_of(w: &[u8]) -> Front
-    ensures { λ r. ⌜ r ≡ front (now (w .entry)) ⌝ }
+// Whether `w` begins with the one name that is left.
+fn begun(w: &[u8], name: &[u8], kind: u32) -> Front
+    ensures { λ r. ⌜ r ≡ frontIn ((kind, now (name .entry)) ∷ []) (now (w .entry)) ⌝ }
 {
-    if words::starts_with_word(w, &POINT) {
-        return Front::Begun(KIND_POINT, POINT.len());
+    if words::starts_with_word(w, name) {
+        Front::Begun(kind, name.len())
+    } else {
+        Front::Other
     }
-    if words::starts_with_word(w, &LINESTRING) {
-        return Front::Begun(KIND_LINESTRING, LINESTRING.len());
-    }
-    if words::starts_with_word(w, &POLYGON) {
-        return Front::Begun(KIND_POLYGON, POLYGON.len());
-    }
+}
+
+// Which of the three names with MULTI in front `w` begins with.
+fn multi_front(w: &[u8]) -> Front
+    ensures { λ r. ⌜ r ≡ frontIn (initial capitalM names) (now (w .entry)) ⌝ }
+{
     if words::starts_with_word(w, &MULTIPOINT) {
         return Front::Begun(KIND_MULTIPOINT, MULTIPOINT.len());
     }
     if words::starts_with_word(w, &MULTILINESTRING) {
         return Front::Begun(KIND_MULTILINESTRING, MULTILINESTRING.len());
     }
-    if words::starts_with_word(w, &MULTIPOLYGON) {
-        return Front::Begun(KIND_MULTIPOLYGON, MULTIPOLYGON.len());
+    begun(w, &MULTIPOLYGON, KIND_MULTIPOLYGON)
+}
+
+// The name that `w` begins with. No name begins with another; the first letter tells most of them apart.
+pub fn front_of(w: &[u8]) -> Front
+    ensures { λ r. ⌜ r ≡ front (now (w .entry)) ⌝ }
+{
+    if w.len() == 0 {
+        return Front::Other;
     }
-    if words::starts_with_word(w, &GEOMETRYCOLLECTION) {
-        return Front::Begun(KIND_GEOMETRYCOLLECTION, GEOMETRYCOLLECTION.len());
+    match words::to_upper(w[0]) {
+        b'P' => {
+            if words::starts_with_word(w, &POINT) {
+                return Front::Begun(KIND_POINT, POINT.len());
+            }
+            begun(w, &POLYGON, KIND_POLYGON)
+        }
+        b'L' => begun(w, &LINESTRING, KIND_LINESTRING),
+        b'M' => multi_front(w),
+        b'G' => begun(w, &GEOMETRYCOLLECTION, KIND_GEOMETRYCOLLECTION),
+        _ => Front::Other,
     }
-    Front::Other
 }
 
 // What the name of a kind means with `rest` after it.

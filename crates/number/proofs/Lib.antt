@@ -2,3 +2,4 @@ pub mod Stop
 pub mod Equal
 pub mod Inner
 pub mod Text
+pub mod OneOutcome

@@ -99,10 +99,17 @@ pub fn read_lexeme(text: &[u8], from: usize) -> Lexeme
     }
 }
 
-// Whether `w` is a number's text.
+// Whether `w` is a number's text. Most have no exponent and are no word, and are told by their digits alone.
 pub fn is_lexeme(w: &[u8]) -> bool
     ensures { λ r. ⌜ r ≡ isLexeme (now (w .entry)) ⌝ }
 {
-    let whole = read_lexeme(w, 0);
-    whole.good & (w.len() <= whole.end)
+    let at = after_sign(w, 0);
+    let whole = digits_end(w, at);
+    let point = after_point(w, whole);
+    let fraction = digits_end(w, point);
+    if (w.len() <= fraction) & ((at < whole) | (point < fraction)) {
+        return true;
+    }
+    let lexeme = read_lexeme(w, 0);
+    lexeme.good & (w.len() <= lexeme.end)
 }

@@ -2,7 +2,7 @@
 -- Assumes nothing.
 use mathlib.Core.Path.{_≡_, refl, ap, sym, _∙_}
 use mathlib.Core.Bool.{Bool, true, false}
-use mathlib.Core.List.{List, _++_, append-assoc}
+use mathlib.Core.List.{List, [], _∷_, _++_, append-assoc}
 use Prim.Native.Nat.{ℕ, suc, _+_, _-_, _≤_, _<_}
 use native.Mathlib.Omega.{arith}
 use native.Mathlib.Numerals.{add-one}
@@ -19,9 +19,9 @@ module _ (piece : List ℕ) (p : Pen) (out : List ℕ) where
   unfolding penAfter outAfter
   no-room e = record { stands = rw e; bytes = rw e }
 
-  pub puts-full : p .full ≡ true → Puts piece p out p out
-  unfolding hasRoom penAfter outAfter
-  puts-full e = record { stands = rw e; bytes = rw e }
+  pub puts-full : p .full ≡ true → Puts piece p out (pen (p .at) true) out
+  unfolding hasRoom
+  puts-full e = no-room (rw e)
 
   pub puts-none : p .full ≡ false → length out < p .at + length piece → Puts piece p out (pen (p .at) true) out
   unfolding hasRoom
@@ -49,6 +49,16 @@ module _ (out piece : List ℕ) (at i : ℕ) where
 
 pub sets-start : (out piece : List ℕ) (at : ℕ) → sets out (at + 0) (drop 0 piece) ≡ sets out at piece
 sets-start out piece at = let z : at + 0 ≡ at = omega arith in rw z
+
+-- the same after a byte
+pub led-all : (out piece : List ℕ) (at lead : ℕ) → sets (set out at lead) (at + 1) piece ≡ sets out at (lead ∷ piece)
+led-all out piece at lead = rw (add-one at)
+
+-- a piece of one byte
+pub led-one : (out piece : List ℕ) (at lead : ℕ) → length piece ≡ 1 → set (set out at lead) (at + 1) (getD piece 0 0) ≡ sets out at (lead ∷ piece)
+led-one out [] at lead e = absurd (omega arith)
+led-one out (b ∷ []) at lead e = rw (add-one at)
+led-one out (b ∷ a ∷ l) at lead e = absurd (omega arith)
 
 -- ---- what a pen owes, put together
 -- nothing is put

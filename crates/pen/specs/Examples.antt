@@ -22,3 +22,8 @@ put = (refl, refl, refl, refl)
 full : (outAfter (pen 1 true) out (66 ∷ []) ≡ out) × (penAfter (pen 1 true) out (66 ∷ []) ≡ pen 1 true)
 unfolding all
 full = (refl, refl)
+
+-- nothing has room everywhere within the slice, at its end too, and past the end not even that
+nothing : (penAfter (pen 3 false) out [] ≡ pen 3 false) × (penAfter (pen 4 false) out [] ≡ pen 4 true) × (outAfter (pen 3 false) out (66 ∷ []) ≡ out) × (penAfter (pen 2 false) out (66 ∷ []) ≡ pen 3 false) × (penAfter (pen 3 false) out (66 ∷ []) ≡ pen 3 true)
+unfolding all
+nothing = (refl, refl, refl, refl, refl)

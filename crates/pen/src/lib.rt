@@ -16,7 +16,7 @@ pub fn put(out: &mut [u8], p: Pen, piece: &[u8]) -> Pen
 {
     let at = p.at;
     if p.full {
-        return p;
+        return Pen { at, full: true };
     }
     if out.len() < at {
         return Pen { at, full: true };
@@ -35,12 +35,46 @@ pub fn put(out: &mut [u8], p: Pen, piece: &[u8]) -> Pen
     }
 }
 
+// Puts a byte and a piece after it, or nothing. A piece of one byte needs no loop.
+pub fn put_led(out: &mut [u8], p: Pen, lead: u8, piece: &[u8]) -> Pen
+    ensures { λ r. ⌜ Puts (lead ∷ now (piece .entry)) p (now (out .entry)) r (now (out .exit)) ⌝ }
+{
+    let at = p.at;
+    if p.full {
+        return Pen { at, full: true };
+    }
+    if out.len() < at {
+        return Pen { at, full: true };
+    }
+    if out.len() - at <= piece.len() {
+        return Pen { at, full: true };
+    }
+    out[at] = lead;
+    let from = at + 1;
+    if piece.len() == 1 {
+        out[from] = piece[0];
+        return Pen {
+            at: from + 1,
+            full: false,
+        };
+    }
+    let mut i = 0;
+    while i < piece.len() {
+        out[from + i] = piece[i];
+        i += 1;
+    }
+    Pen {
+        at: from + i,
+        full: false,
+    }
+}
+
 pub fn put_byte(out: &mut [u8], p: Pen, b: u8) -> Pen
     ensures { λ r. ⌜ Puts (b ∷ []) p (now (out .entry)) r (now (out .exit)) ⌝ }
 {
     let at = p.at;
     if p.full {
-        return p;
+        return Pen { at, full: true };
     }
     if out.len() <= at {
         return Pen { at, full: true };

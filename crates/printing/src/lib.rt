@@ -1,8 +1,12 @@
 // Standard output, written through a buffer that the caller lends with the count of its full bytes, `at`; each
-// `put` answers the count after it.
+// `put` answers the count after it. The contracts say what stands in the buffer: what reaches standard output is
+// outside of the language.
 use libc::STDOUT_FILENO;
-ghost use Prim.Native.Nat.{_+_, _≤_};
-ghost use lib.ListN.{length};
+use pen::Pen;
+ghost use mathlib.Core.Path.{_≡_};
+ghost use mathlib.Core.List.{[], _∷_};
+ghost use Prim.Native.Nat.{_≤_, min};
+ghost use Rattle.printing.specs.Printing.{buffer, putIn, putAllIn, decimal, spaced};
 
 // The most digits that a u64 has.
 const MAX_DIGITS: usize = 20;
@@ -11,19 +15,9 @@ const MAX_DIGITS: usize = 20;
 pub fn least(a: usize, b: usize) -> usize
     ensures { λ r. ⌜ r ≤ a ⌝ }
     ensures { λ r. ⌜ r ≤ b ⌝ }
+    ensures { λ r. ⌜ r ≡ min a b ⌝ }
 {
     if a < b { a } else { b }
-}
-
-// Copies a text into the buffer, from index `at` on.
-fn copy(out: &mut [u8], at: usize, text: &[u8])
-    requires { ⌜ at + length (now text) ≤ length (now out) ⌝ }
-{
-    let mut i = 0;
-    while i < text.len() {
-        out[at + i] = text[i];
-        i += 1;
-    }
 }
 
 // Writes out what the buffer holds.
@@ -33,30 +27,45 @@ pub fn flush(out: &[u8], at: usize) {
 }
 
 // Puts a text behind what the buffer holds, which is written out first where there is no room.
-pub fn put(out: &mut [u8], at: usize, text: &[u8]) -> usize {
+pub fn put(out: &mut [u8], at: usize, text: &[u8]) -> usize
+    ensures { λ r. ⌜ buffer (now (out .exit)) r ≡ putIn (now (text .entry)) (buffer (now (out .entry)) at) ⌝ }
+{
     let full = least(at, out.len());
-    if text.len() <= out.len() - full {
-        copy(out, full, text);
-        return full + text.len();
+    let behind = pen::put(
+        out,
+        Pen {
+            at: full,
+            full: false,
+        },
+        text,
+    );
+    if behind.full {
+        flush(out, full);
+    } else {
+        return behind.at;
     }
-    flush(out, full);
-    if text.len() <= out.len() {
-        copy(out, 0, text);
-        return text.len();
+    let first = pen::put(out, Pen { at: 0, full: false }, text);
+    if first.full {
+        io::write_all(STDOUT_FILENO, text);
+        0
+    } else {
+        first.at
     }
-    io::write_all(STDOUT_FILENO, text);
-    0
 }
 
 // Puts a number's decimal digits.
-pub fn put_number(out: &mut [u8], at: usize, number: usize) -> usize {
+pub fn put_number(out: &mut [u8], at: usize, number: usize) -> usize
+    ensures { λ r. ⌜ buffer (now (out .exit)) r ≡ putIn (decimal number) (buffer (now (out .entry)) at) ⌝ }
+{
     let mut digits = [0u8; MAX_DIGITS];
     let count = io::decimal(number as u64, &mut digits);
     put(out, at, &digits[..count])
 }
 
 // Puts a space, and then a number.
-pub fn put_spaced(out: &mut [u8], at: usize, number: usize) -> usize {
+pub fn put_spaced(out: &mut [u8], at: usize, number: usize) -> usize
+    ensures { λ r. ⌜ buffer (now (out .exit)) r ≡ putAllIn (spaced number) (buffer (now (out .entry)) at) ⌝ }
+{
     let end = put(out, at, b" ");
     put_number(out, end, number)
 }

@@ -1,4 +1,4 @@
--- The numbers of the refusals (document 01, "Refusal numbers"), each with the words that it is given for.
+-- The numbers of the refusals (document 01, "Refusal numbers"), each with the words that it is given for: made by tools/refusals from crates/refusals/table.txt.
 use Prim.Native.Nat.{ℕ}
 
 -- "text over 65,535 bytes"
@@ -57,12 +57,15 @@ notClosed = 13
 abbrev pub noX : ℕ
 noX = 14
 
+-- "X, Y, then Z, M as the dimension asks (14, 15, 16, 17)"
 abbrev pub noY : ℕ
 noY = 15
 
+-- "X, Y, then Z, M as the dimension asks (14, 15, 16, 17)"
 abbrev pub noZ : ℕ
 noZ = 16
 
+-- "X, Y, then Z, M as the dimension asks (14, 15, 16, 17)"
 abbrev pub noM : ℕ
 noM = 17
 

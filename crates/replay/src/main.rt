@@ -23,14 +23,14 @@ mod rows;
 mod tokens;
 mod writing;
 
+use console::U32_BYTES;
 use input::State;
 use input::refill;
-use numbers::U32_BYTES;
 use numbers::field;
 use printing::flush;
 use printing::least;
 use printing::put;
-use tokens::Demand;
+use tokens::Asking;
 
 // Holds the largest record that a letter may have: two slices of 98,304 u32, a text, and some fields. A larger
 // one is passed over.
@@ -46,8 +46,8 @@ fn put_bad_record(out: &mut [u8], at: usize) -> usize {
 // The line of a record, given what follows its count.
 fn answer(record: &[u8], out: &mut [u8], at: usize) -> usize {
     match records::letter(record) {
-        b't' => tokens::answer(record, Demand::Take, out, at),
-        b'p' => tokens::answer(record, Demand::LookAndTake, out, at),
+        b't' => tokens::answer(record, Asking::Take, out, at),
+        b'p' => tokens::answer(record, Asking::LookAndTake, out, at),
         b'r' => reading::answer(record, out, at),
         b'w' => writing::answer(record, out, at),
         b's' => checking::answer(record, out, at),

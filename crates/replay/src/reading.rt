@@ -10,8 +10,6 @@ use crate::records::SECOND_FIELD;
 use crate::records::TEXT_AFTER_TWO;
 use printing::least;
 use printing::put_spaced;
-use store::NODE_WIDTH;
-use store::NUMBER_WIDTH;
 use wkt::ReadAnswer;
 ghost use Prim.Native.Nat.{_≤_};
 
@@ -74,8 +72,8 @@ fn put_answer(
     nodes: &[u32],
     numbers: &[u32],
 ) -> usize {
-    let node_places = least(answer.nodes, MAX_SLICE) * NODE_WIDTH;
-    let number_places = least(answer.numbers, MAX_SLICE) * NUMBER_WIDTH;
+    let node_places = store::node_places(nodes, answer.nodes);
+    let number_places = store::number_places(numbers, answer.numbers);
     let end = put_numbers(out, at, answer);
     let end = put_rows(out, end, nodes, node_places);
     let end = put_rows(out, end, numbers, number_places);

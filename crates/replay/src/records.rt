@@ -1,7 +1,7 @@
 // Which records have an answer. What follows a record's count is a letter, the letter's fields as u32 each, its rows
 // as u32 each, and what is left.
-use crate::numbers::U32_BYTES;
 use crate::numbers::field;
+use console::U32_BYTES;
 use printing::least;
 ghost use Prim.Native.Nat.{_≤_};
 

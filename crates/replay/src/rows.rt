@@ -1,8 +1,8 @@
 // The rows of a store, which stand in a record behind the lengths of their slices: those of the nodes, then at once
 // those of the numbers. So one copy of all of them has both slices.
-use crate::numbers::U32_BYTES;
-use crate::numbers::u32_at;
 use crate::records::TEXT_AFTER_TWO;
+use console::U32_BYTES;
+use console::u32_at;
 use printing::least;
 
 // Fills a slice with the u32 that stand one after the other.

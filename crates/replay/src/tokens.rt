@@ -18,7 +18,7 @@ const PLACE: usize = FIRST_FIELD;
 
 const COUNT: usize = SECOND_FIELD;
 
-pub(crate) enum Demand {
+pub(crate) enum Asking {
     // Letter `t`.
     Take,
     // Letter `p`: each token is looked at twice before it is taken.
@@ -26,25 +26,25 @@ pub(crate) enum Demand {
 }
 
 // What was taken, whether each look before saw the same, and the cursor to go on with.
-struct Demanded {
+struct Asked {
     found: Shown,
     agreed: bool,
     next: Cursor,
 }
 
-fn take(cursor: Cursor, text: &[u8]) -> Demanded {
+fn take(cursor: Cursor, text: &[u8]) -> Asked {
     let taken = cursor.take(text);
     let found = taken.found;
     let next = taken.next;
     let found = show(found);
-    Demanded {
+    Asked {
         found,
         agreed: true,
         next,
     }
 }
 
-fn look_and_take(cursor: Cursor, text: &[u8]) -> Demanded {
+fn look_and_take(cursor: Cursor, text: &[u8]) -> Asked {
     let look = cursor.look(text);
     let first = look.found;
     let cursor = look.next;
@@ -56,26 +56,26 @@ fn look_and_take(cursor: Cursor, text: &[u8]) -> Demanded {
     let next = taken.next;
     let found = show(found);
     let agreed = same(show(first), found) & same(show(second), found);
-    Demanded {
+    Asked {
         found,
         agreed,
         next,
     }
 }
 
-fn demand_one(cursor: Cursor, text: &[u8], demand: Demand) -> Demanded {
-    match demand {
-        Demand::Take => take(cursor, text),
-        Demand::LookAndTake => look_and_take(cursor, text),
+fn ask_one(cursor: Cursor, text: &[u8], asking: Asking) -> Asked {
+    match asking {
+        Asking::Take => take(cursor, text),
+        Asking::LookAndTake => look_and_take(cursor, text),
     }
 }
 
 // What was taken, with ` !` behind it if a look saw something else. No right line has that: by the tokenizer's
 // contracts a look sees what is taken next.
-fn put_demanded(out: &mut [u8], at: usize, demanded: Demanded) -> usize {
-    let found = demanded.found;
+fn put_asked(out: &mut [u8], at: usize, asked: Asked) -> usize {
+    let found = asked.found;
     let end = put_shown(out, at, found);
-    if demanded.agreed {
+    if asked.agreed {
         end
     } else {
         put(out, end, b" !")
@@ -87,7 +87,7 @@ fn put_tokens(
     text: &[u8],
     from: Cursor,
     count: usize,
-    demand: Demand,
+    asking: Asking,
     out: &mut [u8],
     at: usize,
 ) -> usize {
@@ -95,9 +95,9 @@ fn put_tokens(
     let mut left = count;
     let mut end = at;
     while left > 0 {
-        let demanded = demand_one(cursor, text, demand);
-        end = put_demanded(out, end, demanded);
-        cursor = demanded.next;
+        let asked = ask_one(cursor, text, asking);
+        end = put_asked(out, end, asked);
+        cursor = asked.next;
         left -= 1;
         if left > 0 {
             end = put_space(out, end);
@@ -107,14 +107,14 @@ fn put_tokens(
 }
 
 // The line of a record of one of these letters.
-pub(crate) fn answer(record: &[u8], demand: Demand, out: &mut [u8], at: usize) -> usize {
+pub(crate) fn answer(record: &[u8], asking: Asking, out: &mut [u8], at: usize) -> usize {
     let text = least(TEXT_AFTER_TWO, record.len());
     let cursor = Cursor::new(field(record, PLACE));
     let end = put_tokens(
         &record[text..],
         cursor,
         field(record, COUNT),
-        demand,
+        asking,
         out,
         at,
     );

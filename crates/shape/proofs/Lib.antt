@@ -1,6 +1,12 @@
 pub mod Frames
 pub mod Numbers
 pub mod Nested
-pub mod Walk
+pub mod Stack
 pub mod Steps
-pub mod Turns
+pub mod Trees
+pub mod Slices
+pub mod Stores
+pub mod Stepped
+pub mod Loops
+pub mod Checks
+pub mod OneOutcome

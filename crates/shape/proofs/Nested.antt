@@ -12,7 +12,7 @@ use Rattle.limits.specs.Limits.{depthLimit}
 use Rattle.kinds.specs.Kinds.{kindPoint, kindLineString, kindMultiPoint, kindMultiPolygon, kindGeometryCollection}
 use Rattle.shape.specs.declared.Frame.{Frame}
 use Rattle.shape.specs.declared.Visit.{Visit}
-use Rattle.shape.specs.Nodes.{noKind, above, isFree, childKind, isGeometry, isChild, isAllowed, isLeaf, isCollection, mayOpen, opened, fewer, after}
+use Rattle.shape.specs.Nodes.{noKind, above, isFree, childKind, isGeometry, isChild, isAllowed, isLeaf, isCollection, mayOpen, opened, onward}
 use Rattle.shape.specs.Walk.{frames}
 
 -- how many open nodes may stand below one of this kind, collections aside: in a collection a multipolygon and its polygon
@@ -25,23 +25,25 @@ one kind = cond (eqb kind kindGeometryCollection) 1 0
 
 pub data Nested : List Frame → Type 0 where
   outer : Nested []
-  inner : (f : Frame) (fs : List Frame) → length fs + 1 + below (f .kind) ≤ f .depth + 3 → f .depth ≤ depthLimit → Nested fs → Nested (f ∷ fs)
+  inner : (f : Frame) (fs : List Frame) → (f .kind ≡ noKind → fs ≡ []) → length fs + 1 + below (f .kind) ≤ f .depth + 3 → f .depth ≤ depthLimit → Nested fs → Nested (f ∷ fs)
 
 pub depth-limit : {f : Frame} {fs : List Frame} → Nested (f ∷ fs) → f .depth ≤ depthLimit
-depth-limit (inner f fs a b n) = b
+depth-limit (inner f fs o a b n) = b
 
 pub nested-above : Nested (above ∷ [])
-nested-above = inner above [] (omega arith) (omega arith) outer
+nested-above = inner above [] (λ _. refl) (omega arith) (omega arith) outer
 
--- a child has ended
-pub nested-after : {fs : List Frame} → Nested fs → Nested (after fs)
-unfolding after
-nested-after outer = outer
-nested-after (inner f fs a b n) = go (eqb (f .left) 0) (nested-after n)
-  where
-    go : (z : Bool) → Nested (after fs) → Nested (cond z (after fs) (fewer f ∷ fs))
-    go true ih = ih
-    go false ih = inner (fewer f) fs a b n
+-- a child has been met
+pub nested-onward : {f : Frame} {fs : List Frame} → Nested (f ∷ fs) → Nested (onward f ∷ fs)
+nested-onward (inner f fs o a b n) = inner (onward f) fs o a b n
+
+-- the innermost node has ended
+pub nested-outer : {f : Frame} {fs : List Frame} → Nested (f ∷ fs) → Nested fs
+nested-outer (inner f fs o a b n) = n
+
+-- what stands above the root is the outermost
+pub outermost : {f : Frame} {fs : List Frame} → Nested (f ∷ fs) → f .kind ≡ noKind → fs ≡ []
+outermost (inner f fs o a b n) = o
 
 free-fits : (k : ℕ) → 1 ≤ k → below k + 1 ≤ 2 + one k
 free-fits k h = rw (ne-eqb k noKind (λ e. omega arith)) (go (eqb k kindGeometryCollection) (eqb k kindMultiPolygon))
@@ -85,9 +87,9 @@ module _ (v : Visit) (may : mayOpen v ≡ true) (ok : v .parent .depth ≤ depth
   depth-one false = omega arith
 
   -- a node is opened: it is nested, and there is a frame for it
-  pub nested-open : {fs : List Frame} → isAllowed v ≡ true → isLeaf v ≡ false → Nested (v .parent ∷ fs) → Nested (opened v ∷ v .parent ∷ fs) × (length fs + 1 < frames)
-  nested-open a l (inner f fs x y n) =
+  pub nested-open : {fs : List Frame} → isAllowed v ≡ true → isLeaf v ≡ false → Nested (v .parent ∷ fs) → Nested (opened v ∷ onward (v .parent) ∷ fs) × (length fs + 1 < frames)
+  nested-open a l (inner f fs o x y n) =
       let h = node-fits v a l in
       let e = depth-one (isCollection v) in
       let d = depth-fits (isCollection v) may in
-      (inner (opened v) (f ∷ fs) (omega (arith, x, h, e)) d (inner f fs x y n), omega (arith, x, h, e, d))
+      (inner (opened v) (onward f ∷ fs) (λ z. absurd (or-left (leb (v .kind) kindLineString) _ l (rw z))) (omega (arith, x, h, e)) d (inner (onward f) fs o x y n), omega (arith, x, h, e, d))

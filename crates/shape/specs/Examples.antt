@@ -1,8 +1,8 @@
 -- Worked examples of this crate's definitions, by computation: a well-formed store of each sort, and each clause of the definition broken by itself.
 use mathlib.Core.Path.{_≡_, refl}
 use mathlib.Core.Bool.{Bool, true, false}
-use mathlib.Core.Option.{some}
-use mathlib.Core.List.{List, [], _∷_, _++_}
+use mathlib.Core.Option.{none, some}
+use mathlib.Core.List.{List, [], _∷_, _++_, flatMap}
 use Prim.Native.Nat.{ℕ, zero, suc}
 use Rattle.kinds.specs.Kinds.{width}
 use Rattle.scan.specs.Text.{bytes}
@@ -11,9 +11,13 @@ use Rattle.words.specs.Words.{sameWord}
 use Rattle.lists.specs.Lists.{every}
 use Rattle.number.specs.Lexeme.{isNamed, isDigits, isExponent, isDecimal, isUnsigned, isLexeme}
 use Rattle.store.specs.Rows.{row, cell, firsts, rowsIn, spansIn}
-use Rattle.shape.specs.Nodes.{frame, above, visitOf, numbersOf, childKind, isAllowed, after, ends, isOpen, ending, atLast, visitsBy, visits, treeOf}
+use Rattle.tree.specs.Tree.{rowsWith}
+use Rattle.tree.specs.TreeIn.{onFront, asA, times, findText, findRow, exactlyOne, atMostOne, findParts, findNode, whole}
+use Rattle.shape.specs.declared.Met.the-variants.{Node, End}
+use Rattle.shape.specs.Nodes.{frame, above, visitOf, endOf, endings, stillOpen, atLast, isAllowed, childKind, numbersOf, meetsNode, meetsRows, meets}
+use Rattle.shape.specs.Visits.{walkEach, walkParts}
 use Rattle.shape.specs.Numbers.{areNumbers}
-use Rattle.shape.specs.Store.{areWhole, visitsOf, wellFormed}
+use Rattle.shape.specs.Store.{areWhole, allRows, treeOf, walkOf, wellFormed}
 
 -- the numbers `1`, `2` and `-3`, and `x`, which is none
 text : List ℕ
@@ -38,7 +42,7 @@ emptyPoint : List ℕ
 emptyPoint = 1 ∷ 0 ∷ 0 ∷ []
 
 all : ℕ
-unfolding text coordinate isGood nest point emptyPoint begins afterOne afterAll isNil sameWord isNamed isDigits isExponent isDecimal isUnsigned isLexeme every cell firsts rowsIn spansIn width numbersOf childKind isAllowed after ends isOpen atLast visitsBy visits treeOf areNumbers areWhole visitsOf wellFormed
+unfolding text coordinate isGood nest point emptyPoint begins afterOne afterAll isNil sameWord isNamed isDigits isExponent isDecimal isUnsigned isLexeme every cell firsts rowsIn spansIn width flatMap rowsWith onFront asA times findText findRow exactlyOne atMostOne findParts findNode whole walkEach walkParts numbersOf childKind isAllowed endOf endings stillOpen atLast meetsNode meetsRows meets areNumbers areWhole treeOf walkOf wellFormed
 all = 0
 
 -- `POINT(1 2)`, `POINT EMPTY`, `MULTIPOINT((1 2))`, `MULTIPOLYGON(((1 2)))`
@@ -51,18 +55,34 @@ mixed : isGood (7 ∷ 1 ∷ 1 ∷ point) coordinate ≡ true
 unfolding all
 mixed = refl
 
--- the nodes of `GEOMETRYCOLLECTION(MULTIPOINT((1 2)),POINT EMPTY)` in their places: the point in row 2 ends the multipoint and a child of the collection
--- follows, the point in row 3 ends the collection
+-- the nodes of `GEOMETRYCOLLECTION(MULTIPOINT((1 2)),POINT EMPTY)` in their places: the multipoint ends after its point, having taken 2 rows, and the
+-- collection after its second child, having taken 4
+store : List ℕ
+store = 7 ∷ 0 ∷ 2 ∷ 4 ∷ 0 ∷ 1 ∷ point ++ emptyPoint
+
 places :
-    visitsOf text (7 ∷ 0 ∷ 2 ∷ 4 ∷ 0 ∷ 1 ∷ point ++ emptyPoint) coordinate
+    walkOf text store coordinate
     ≡ some
-    (visitOf 0 0 above (row 7 0 2)
-    ∷ visitOf 1 0 (frame 0 7 0 1 1) (row 4 0 1)
-    ∷ ending (visitOf 2 0 (frame 1 4 0 1 0) (row 1 0 1)) 1 true
-    ∷ ending (visitOf 3 2 (frame 0 7 0 1 0) (row 1 0 0)) 1 false
+    (Node (visitOf 0 0 above (row 7 0 2))
+    ∷ Node (visitOf 1 0 (frame 0 7 0 1 2 0) (row 4 0 1))
+    ∷ Node (visitOf 2 0 (frame 1 4 0 1 1 0) (row 1 0 1))
+    ∷ End 1 2
+    ∷ Node (visitOf 3 2 (frame 0 7 0 1 2 1) (row 1 0 0))
+    ∷ End 0 4
     ∷ [])
-unfolding all
+unfolding all store
 places = refl
+
+-- the rows by themselves, met one after the other, come to the same
+by-rows : meets 2 (above ∷ []) 0 0 (allRows store) ≡ walkOf text store coordinate
+unfolding all store
+by-rows = refl
+
+-- and where they are no tree they come to none: a point of two parts, 33 collections on a path, a point in a polygon, an empty point in a multipoint, a
+-- number left over
+by-rows-ill : (meets 4 (above ∷ []) 0 0 (allRows (1 ∷ 0 ∷ 2 ∷ [])) ≡ none) × (meets 0 (above ∷ []) 0 0 (allRows (nest 33 ++ emptyPoint)) ≡ none) × (meets 0 (above ∷ []) 0 0 (allRows (3 ∷ 0 ∷ 1 ∷ emptyPoint)) ≡ none) × (meets 0 (above ∷ []) 0 0 (allRows (4 ∷ 0 ∷ 1 ∷ emptyPoint)) ≡ none) × (meets 3 (above ∷ []) 0 0 (allRows point) ≡ none)
+unfolding all
+by-rows-ill = (refl, refl, refl, refl, refl)
 
 -- "exactly one preorder tree": no row, two trees, a child lacking, a child too many
 tree : (isGood [] [] ≡ false) × (isGood (emptyPoint ++ emptyPoint) [] ≡ false) × (isGood (7 ∷ 0 ∷ 1 ∷ []) [] ≡ false) × (isGood (7 ∷ 0 ∷ 1 ∷ emptyPoint ++ emptyPoint) [] ≡ false)

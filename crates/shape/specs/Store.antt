@@ -1,27 +1,53 @@
 -- Well-formed stores (document 01, "The store").
-use mathlib.Core.Bool.{Bool, cond, _&&_}
-use mathlib.Core.Option.{Option, none}
+use mathlib.Core.Bool.{Bool, true, false, cond, _&&_}
+use mathlib.Core.Option.{Option, none, some}
 use mathlib.Core.List.{List}
 use Prim.Native.Nat.{ℕ, _%_}
 use lib.Dec.{eqb}
 use lib.ListN.{length}
-use Rattle.store.specs.Rows.{nodeWidth, numberWidth, numberRoom}
-use Rattle.shape.specs.declared.Visit.{Visit}
-use Rattle.shape.specs.Nodes.{treeOf, isSome}
+use Rattle.limits.specs.Limits.{depthLimit}
+use Rattle.store.specs.Rows.{Row, Span, nodeWidth, numberWidth, nodeRoom, numberRoom, rowsIn, spansIn}
+use Rattle.tree.specs.Tree.{Tree}
+use Rattle.tree.specs.TreeIn.{spanTexts, treeIn}
+use Rattle.shape.specs.declared.Met.{Met}
+use Rattle.shape.specs.Nodes.{above}
 use Rattle.shape.specs.Numbers.{areNumbers}
+use Rattle.shape.specs.Visits.{walkTree}
+
+-- ---- all node rows and all number rows of lent slices
+abbrev pub allRows : List ℕ → List Row
+allRows nodes = rowsIn nodes (nodeRoom nodes)
+
+abbrev pub allSpans : List ℕ → List ℕ → List Span
+allSpans text numbers = spansIn text numbers (numberRoom numbers)
+
+abbrev pub allTexts : List ℕ → List ℕ → List (List ℕ)
+allTexts text numbers = spanTexts (allSpans text numbers)
 
 -- "a slice length not divisible by 3 or 2 is ill formed"
 unfoldable pub areWhole : List ℕ → List ℕ → Bool
 areWhole nodes numbers = eqb (length nodes % nodeWidth) 0 && eqb (length numbers % numberWidth) 0
 
--- the nodes of a well-formed store in their places: every later meaning is a function of them
-unfoldable pub visitsOf : List ℕ → List ℕ → List ℕ → Option (List Visit)
-visitsOf text nodes numbers = cond (areWhole nodes numbers && areNumbers text numbers) (treeOf nodes (numberRoom numbers)) none
+-- the one tree that a store is, if it is one: every meaning of a store is a function of it
+unfoldable pub treeOf : List ℕ → List ℕ → List ℕ → Option (Tree depthLimit)
+treeOf text nodes numbers = cond (areWhole nodes numbers && areNumbers text numbers) (treeIn depthLimit (allRows nodes) (allTexts text numbers)) none
+
+abbrev pub isSome : {X : Type 0} → Option X → Bool
+isSome none = false
+isSome (some x) = true
 
 -- "A store is well formed if its rows are exactly one preorder tree [..], the numbers are exactly as many as needed, and each lies in its text and is a lexeme."
 unfoldable pub wellFormed : List ℕ → List ℕ → List ℕ → Bool
-wellFormed text nodes numbers = isSome (visitsOf text nodes numbers)
+wellFormed text nodes numbers = isSome (treeOf text nodes numbers)
 
--- "writer or strict check: store ill formed"
-abbrev pub illFormed : ℕ
-illFormed = 22
+abbrev pub mapO : {X Y : Type 0} → (X → Y) → Option X → Option Y
+mapO f none = none
+mapO f (some x) = some (f x)
+
+-- what a walk from above the root meets in a tree
+abbrev pub walkRoot : Tree depthLimit → List Met
+walkRoot t = walkTree depthLimit above 0 0 t
+
+-- what a walk through a store meets, if it is well formed
+unfoldable pub walkOf : List ℕ → List ℕ → List ℕ → Option (List Met)
+walkOf text nodes numbers = mapO walkRoot (treeOf text nodes numbers)

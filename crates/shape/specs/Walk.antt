@@ -1,103 +1,158 @@
--- The walk as the code takes it, step by step: `proofs/Walk` shows that it meets the nodes of `Nodes` in their places.
-use mathlib.Core.Bool.{cond, _&&_}
+-- The walk as the code takes it, step by step, with its frames as numbers in a lent array: `proofs/Stepped` shows that it meets what `Nodes` says.
+use mathlib.Core.Bool.{Bool, cond, not, _&&_}
 use mathlib.Core.Option.{Option}
 use mathlib.Core.List.{List, [], _∷_}
-use Prim.Native.Nat.{ℕ, suc, _+_, _-_, _^_, _≤_, _<_}
+use Prim.Native.Nat.{ℕ, _+_, _-_, _*_, _/_, _%_, _^_, _≤_, _<_}
 use lib.Dec.{eqb, leb, ltb}
-use lib.ListN.{drop, getD, set, replicate}
-use Rattle.limits.specs.Limits.{depthLimit}
-use Rattle.store.specs.Rows.{Row, nodeRoom, rowAt, rowsIn}
+use lib.ListN.{drop, getD, set}
+use lib.Seq.{sets}
+use Rattle.kinds.specs.Kinds.{kindLineString, width}
+use Rattle.store.specs.Rows.{Row, nodeRoom, firsts, rowAt}
 use Rattle.shape.specs.declared.Frame.{Frame}
-use Rattle.shape.specs.declared.Cursor.{Cursor}
-use Rattle.shape.specs.declared.Closed.{Closed}
 use Rattle.shape.specs.declared.Visit.{Visit}
-use Rattle.shape.specs.declared.Found.{Found}
-use Rattle.shape.specs.declared.Found.the-variants.{Node, Done, Ill}
-use Rattle.shape.specs.declared.Step.{Step}
-use Rattle.shape.specs.Nodes.{frame, above, visitOf, numbersOf, isLeaf, isAllowed, isCollection, fewer, ends, ending, visits}
+use Rattle.shape.specs.declared.Walk.{Walk}
+use Rattle.shape.specs.declared.Walked.{Walked}
+use Rattle.shape.specs.declared.Met.{Met}
+use Rattle.shape.specs.declared.Met.the-variants.{Node, End, Done, Ill}
+use Rattle.shape.specs.declared.Coming.{Coming}
+use Rattle.shape.specs.declared.Coming.the-variants as coming
+use Rattle.shape.specs.Nodes.{noKind, frame, above, visitOf, numbersOf, isLeaf, isAllowed, mayOpen, opened, isSpent, meets}
+use Rattle.shape.specs.Numbers.{areNumbers}
+use Rattle.shape.specs.Store.{areWhole, allRows}
 
--- how many frames a cursor has
+-- ---- frames as numbers
+-- how many frames there are, and how many numbers each has
 abbrev pub frames : ℕ
 frames = 35
 
-abbrev pub cursor : ℕ → ℕ → ℕ → List Frame → Cursor
-cursor i j top fs = record { row = i; number = j; top = top; frames = fs }
+abbrev pub frameWidth : ℕ
+frameWidth = 7
 
-abbrev pub stepTo : Found → Cursor → Step
-stepTo found c = record { found = found; next = c }
+abbrev pub cells : ℕ
+cells = frames * frameWidth
 
-abbrev pub ill : Cursor → Step
-ill c = stepTo Ill c
+-- a frame's row takes two numbers below this
+abbrev pub half : ℕ
+half = 2 ^ 32
 
-abbrev pub frameAt : List Frame → ℕ → Frame
-frameAt fs i = getD fs i above
+abbrev pub nextColumn : ℕ
+nextColumn = 6
+
+-- the number in column c of frame t
+abbrev pub frameCell : List ℕ → ℕ → ℕ → ℕ
+frameCell s t c = getD s (t * frameWidth + c) 0
+
+-- its row, as its lower and its upper half, then each other field
+unfoldable pub frameAt : List ℕ → ℕ → Frame
+frameAt s t = frame (frameCell s t 0 + frameCell s t 1 * half) (frameCell s t 2) (frameCell s t 3) (frameCell s t 4) (frameCell s t 5) (frameCell s t nextColumn)
+
+abbrev pub frameNumbers : Frame → List ℕ
+frameNumbers f = f .row % half ∷ f .row / half ∷ f .kind ∷ f .dimension ∷ f .depth ∷ f .parts ∷ f .next ∷ []
+
+unfoldable pub putFrame : List ℕ → ℕ → Frame → List ℕ
+putFrame s t f = sets s (t * frameWidth + 0) (frameNumbers f)
+
+-- the child that comes next in a frame
+unfoldable pub putNext : List ℕ → ℕ → ℕ → List ℕ
+putNext s t n = set s (t * frameWidth + nextColumn) n
+
+-- ---- a step
+abbrev pub walkAt : ℕ → ℕ → ℕ → Walk
+walkAt i j top = record { row = i; number = j; top = top }
+
+abbrev pub walked : Met → Walk → Walked
+walked m w = record { met = m; next = w }
+
+-- what a step answers, and the frames after it
+abbrev pub After : Type 0
+After = Walked × List ℕ
+
+abbrev pub ill : List ℕ → Walk → After
+ill s w = (walked Ill w, s)
 
 -- above the root
-unfoldable pub begin : Cursor
-begin = cursor 0 0 (frames - 1) (replicate frames above)
+unfoldable pub beginning : List ℕ → Walk × List ℕ
+beginning s = (walkAt 0 0 (frames - 1), putFrame s (frames - 1) above)
 
--- no node is open and no number is left
-unfoldable pub atEnd : ℕ → Cursor → Step
-atEnd count c = cond (leb frames (c .top) && eqb (c .number) count) (stepTo Done c) (ill c)
+-- the innermost open node: a child of it is wanted, or it has ended
+unfoldable pub comingIn : Frame → Walk → Coming
+comingIn f w =
+    cond (isSpent f)
+    (cond (eqb (f .kind) noKind) coming.Last (coming.End (f .row) (w .row - f .row) (walkAt (w .row) (w .number) (w .top + 1))))
+    (coming.Child f)
 
--- how many frames have no child to come
-unfoldable pub spent : List Frame → ℕ
-spent [] = 0
-spent (f ∷ fs) = cond (eqb (f .left) 0) (suc (spent fs)) 0
-
--- the frames that have no child to come are passed, and the next has one fewer
-abbrev pub closeAt : List Frame → ℕ → ℕ → Closed
-closeAt fs top n = record { top = top; ends = n; frames = set fs top (fewer (frameAt fs top)) }
-
-unfoldable pub closeFrom : List Frame → ℕ → Closed
-closeFrom fs top = closeAt fs (top + spent (drop top fs)) (ends (drop top fs))
-
--- a node ends below the frames
-unfoldable pub endAt : Cursor → ℕ → Visit → Closed → Step
-endAt c need v closed = stepTo (Node (ending v (closed .ends) (ltb (closed .top) frames))) (cursor (c .row + 1) (c .number + need) (closed .top) (closed .frames))
+unfoldable pub comingNext : List ℕ → Walk → Coming
+comingNext s w = cond (ltb (w .top) frames) (comingIn (frameAt s (w .top)) w) coming.Last
 
 -- a node without child rows
-unfoldable pub passing : ℕ → Cursor → Visit → Step
-passing count c v = cond (leb (c .number + numbersOf v) count) (endAt c (numbersOf v) v (closeFrom (c .frames) (c .top))) (ill c)
+unfoldable pub passing : List ℕ → ℕ → Walk → Visit → After
+passing s count w v =
+    cond (leb (v .number + numbersOf v) count)
+    (walked (Node v) (walkAt (w .row + 1) (v .number + numbersOf v) (w .top)), putNext s (w .top) (v .parent .next + 1))
+    (ill s w)
 
 -- a node whose children follow gets a frame, if there is one
-unfoldable pub pushing : Cursor → Visit → ℕ → Step
-pushing c v depth =
-    cond (eqb (c .top) 0) (ill c)
-    (stepTo (Node v) (cursor (c .row + 1) (c .number) (c .top - 1) (set (c .frames) (c .top - 1) (frame (v .row) (v .kind) (v .dimension) depth (v .parts - 1)))))
+unfoldable pub pushing : List ℕ → Walk → Visit → After
+pushing s w v =
+    cond (mayOpen v && not (eqb (w .top) 0))
+    (walked (Node v) (walkAt (w .row + 1) (v .number) (w .top - 1)), putFrame (putNext s (w .top) (v .parent .next + 1)) (w .top - 1) (opened v))
+    (ill s w)
 
-unfoldable pub entering : Cursor → Visit → Step
-entering c v =
-    cond (isCollection v)
-    (cond (leb depthLimit (v .parent .depth)) (ill c) (pushing c v (v .parent .depth + 1)))
-    (pushing c v (v .parent .depth))
+unfoldable pub meeting : List ℕ → ℕ → Walk → Visit → After
+meeting s count w v = cond (isAllowed v) (cond (isLeaf v) (passing s count w v) (pushing s w v)) (ill s w)
 
-unfoldable pub stepAt : ℕ → Cursor → Visit → Step
-stepAt count c v = cond (isAllowed v) (cond (isLeaf v) (passing count c v) (entering c v)) (ill c)
+-- a row that is given, if one is wanted and can be counted
+abbrev pub givenAt : List ℕ → ℕ → Walk → Row → Coming → After
+givenAt s count w r (coming.Child f) = cond (ltb (w .row + 1) (2 ^ 64)) (meeting s count w (visitOf (w .row) (w .number) f r)) (ill s w)
+givenAt s count w r (coming.End i n w′) = ill s w
+givenAt s count w r coming.Last = ill s w
 
-unfoldable pub step : List ℕ → ℕ → Cursor → Step
-step nodes count c =
-    cond (leb (nodeRoom nodes) (c .row)) (atEnd count c)
-    (cond (leb frames (c .top)) (ill c)
-    (stepAt count c (visitOf (c .row) (c .number) (frameAt (c .frames) (c .top)) (rowAt nodes (c .row)))))
+unfoldable pub given : List ℕ → ℕ → Walk → Row → After
+given s count w r = givenAt s count w r (comingNext s w)
 
--- ---- what a cursor has ahead
+-- the root has ended: no row and no number is left
+unfoldable pub lastOf : List ℕ → ℕ → Walk → Met
+lastOf nodes count w = cond (leb (nodeRoom nodes) (w .row) && eqb (w .number) count) Done Ill
+
+-- a step over rows that are there
+abbrev pub stepAt : List ℕ → ℕ → List ℕ → Walk → Coming → After
+stepAt nodes count s w (coming.Child f) = cond (ltb (w .row) (nodeRoom nodes)) (meeting s count w (visitOf (w .row) (w .number) f (rowAt nodes (w .row)))) (ill s w)
+stepAt nodes count s w (coming.End i n w′) = (walked (End i n) w′, s)
+stepAt nodes count s w coming.Last = (walked (lastOf nodes count w) w, s)
+
+unfoldable pub step : List ℕ → ℕ → List ℕ → Walk → After
+step nodes count s w = stepAt nodes count s w (comingNext s w)
+
+-- ---- what a walk has ahead
 abbrev pub rowsFrom : List ℕ → ℕ → List Row
-rowsFrom nodes i = drop i (rowsIn nodes (nodeRoom nodes))
+rowsFrom nodes i = drop i (allRows nodes)
 
-abbrev pub openAt : Cursor → List Frame
-openAt c = drop (c .top) (c .frames)
+abbrev pub openAt : List ℕ → Walk → List Frame
+openAt s w = drop (w .top) (firsts (frameAt s) frames)
 
--- the nodes that are still to be met
-abbrev pub ahead : List ℕ → ℕ → Cursor → Option (List Visit)
-ahead nodes count c = visits count (openAt c) (c .row) (c .number) (rowsFrom nodes (c .row))
+-- what is still to be met
+abbrev pub ahead : List ℕ → ℕ → List ℕ → Walk → Option (List Met)
+ahead nodes count s w = meets count (openAt s w) (w .row) (w .number) (rowsFrom nodes (w .row))
+
+-- what is met in all
+abbrev pub wholeWalk : List ℕ → ℕ → Option (List Met)
+wholeWalk nodes count = meets count (above ∷ []) 0 0 (allRows nodes)
+
+-- what is tested before the walk: whole rows, and numbers that lie in the text and are lexemes
+unfoldable pub areRows : List ℕ → List ℕ → List ℕ → Bool
+areRows text nodes numbers = areWhole nodes numbers && areNumbers text numbers
 
 -- ---- what private functions ask
--- one more row can be counted
-abbrev pub HasNext : Cursor → Type 0
-HasNext c = c .row + 1 < 2 ^ 64
+-- a node's coordinates are among the first `count` numbers
+abbrev pub CoordinatesIn : ℕ → Visit → Type 0
+CoordinatesIn count v = v .number + v .parts * width (v .dimension) ≤ count
 
-pub record Pushes (c : Cursor) (v : Visit) : Type 0 where
-  pub row : HasNext c
-  pub top : c .top ≤ frames
-  pub parts : 1 ≤ v .parts
+-- the same of a node, if its parts are coordinates
+abbrev pub NumbersIn : ℕ → Visit → Type 0
+NumbersIn count v = v .kind ≤ kindLineString → CoordinatesIn count v
+
+-- a child of the innermost open node can be met
+pub record HasChild (w : Walk) (v : Visit) : Type 0 where
+  pub row : w .row + 1 < 2 ^ 64
+  pub top : w .top < frames
+  pub next : v .parent .next < v .parent .parts

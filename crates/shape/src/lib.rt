@@ -1,12 +1,13 @@
 // Whether a store is well formed, and the walk over its node rows that every later entry takes.
 ghost use mathlib.Core.Path.{_≡_};
+ghost use mathlib.Core.Bool.{true};
 ghost use lib.Dec.{leb};
-ghost use Prim.Native.Nat.{_+_};
-ghost use Rattle.store.specs.Rows.{rowAt};
-ghost use Rattle.shape.specs.Nodes.{visitOf, isLeaf, numbersOf, isFree, childKind, isGeometry, isChild, isAllowed, ending, isTree};
+ghost use Prim.Native.Nat.{_+_, _-_, _*_, _<_};
+ghost use Rattle.store.specs.Rows.{row, rowAt};
+ghost use Rattle.shape.specs.Nodes.{visitOf, isLeaf, numbersOf, isFree, childKind, isGeometry, isChild, isAllowed, mayOpen, opened};
 ghost use Rattle.shape.specs.Numbers.{textAt, isNumberAt, areNumbers};
-ghost use Rattle.shape.specs.Store.{wellFormed};
-ghost use Rattle.shape.specs.Walk.{HasNext, Pushes, closeFrom, ill, begin, atEnd, passing, pushing, entering, step};
+ghost use Rattle.shape.specs.Store.{isSome, wellFormed};
+ghost use Rattle.shape.specs.Walk.{frames, half, HasChild, frameAt, putFrame, putNext, beginning, comingIn, comingNext, passing, pushing, meeting, given, lastOf, step, areRows, wholeWalk};
 use kinds::DIM_XYZM;
 use kinds::KIND_GEOMETRYCOLLECTION;
 use kinds::KIND_LINESTRING;
@@ -18,36 +19,47 @@ use limits::DEPTH_LIMIT;
 use store::NODE_WIDTH;
 use store::NUMBER_WIDTH;
 
-// The refusal of a store that is ill formed.
-pub const ILL_FORMED: u32 = 22;
-
 // Above the root stands no kind.
 pub const NO_KIND: u32 = 0;
 
 // How many frames a walk needs: the one above the root, the collections, and in the last of them a multipolygon with a polygon.
 pub const FRAMES: usize = 35;
 
-// An open node, one of whose children is being read: how many collections are open with it, and how many children follow
-// the one being read. The outermost frame stands above the root: its kind is NO_KIND, and its one child is the root.
+// A frame is kept as numbers in a lent array: its row takes the first two, and then each field has one.
+const FRAME_WIDTH: usize = 7;
+
+const ROW_LOW: usize = 0;
+
+const ROW_HIGH: usize = 1;
+
+const KIND: usize = 2;
+
+const DIMENSION: usize = 3;
+
+const DEPTH: usize = 4;
+
+const PARTS: usize = 5;
+
+const NEXT: usize = 6;
+
+// How many numbers the frames have in all.
+pub const CELLS: usize = 245;
+
+// What a number of the array can hold.
+const HALF: usize = 4294967296;
+
+// An open node, some of whose children are still to come: its row, what the row says, how many collections are open with it, and
+// the index of the child that comes next. The outermost frame stands above the root: its kind is NO_KIND, and its one child is the root.
 pub struct Frame {
     pub row: usize,
     pub kind: u32,
     pub dimension: u32,
     pub depth: u32,
-    pub left: u32,
+    pub parts: u32,
+    pub next: u32,
 }
 
-// Where a walk stands: the next row, the next number, and the open nodes `frames[top..]`, the innermost first.
-pub struct Cursor {
-    pub row: usize,
-    pub number: usize,
-    pub top: usize,
-    pub frames: [Frame; FRAMES],
-}
-
-// A node in its place: its row, the index of its first number, what its row says, and its parent.
-// `ends` tells how many of the nodes that it lies in end with it, and `more` whether one more child follows where they end.
-// Where its own children come first, nothing ends and `more` is false.
+// A node in its place: its row, the index of its first number, what its row says, and its parent, in which it is the child `parent.next`.
 pub struct Visit {
     pub row: usize,
     pub number: usize,
@@ -55,28 +67,36 @@ pub struct Visit {
     pub dimension: u32,
     pub parts: u32,
     pub parent: Frame,
-    pub ends: usize,
-    pub more: bool,
 }
 
-// A node; or that all rows and numbers were passed, and are a tree; or that they are none.
-pub enum Found {
+// What a walk meets: a node; the end of a node that has child rows, by its row and by how many rows it and all that is under it took; that
+// all rows and numbers were passed, and are a tree; or that they are none.
+pub enum Met {
     Node(Visit),
+    End(usize, usize),
     Done,
     Ill,
 }
 
-// On `Done` and `Ill` the cursor stays.
-pub struct Step {
-    pub found: Found,
-    pub next: Cursor,
+// Where a walk stands: the next row, the next number, and the open nodes, the innermost in frame `top`, the outermost in the last.
+pub struct Walk {
+    pub row: usize,
+    pub number: usize,
+    pub top: usize,
 }
 
-// The frames after a child has ended, and how many nodes ended with it.
-struct Closed {
-    top: usize,
-    ends: usize,
-    frames: [Frame; FRAMES],
+// What comes next of a walk: a child of an open node, so that a row is wanted; the end of a node, by its row and how many rows it took, and the walk
+// after it; or nothing, as the root has ended.
+pub enum Coming {
+    Child(Frame),
+    End(usize, usize, Walk),
+    Last,
+}
+
+// What a step met, and the walk after it. On `Done` and `Ill` the walk stays.
+pub struct Walked {
+    pub met: Met,
+    pub next: Walk,
 }
 
 // How many numbers a node has itself.
@@ -144,71 +164,135 @@ fn is_allowed(v: Visit) -> bool
     is_child(v)
 }
 
-// The node of a row below a parent.
-fn visit_at(nodes: &[u32], row: usize, number: usize, parent: Frame) -> Visit
-    ensures { λ r. ⌜ r ≡ visitOf row number parent (rowAt (now (nodes .entry)) row) ⌝ }
+// Whether a node whose children follow may be opened where it stands.
+fn may_open(v: Visit) -> bool
+    ensures { λ r. ⌜ r ≡ mayOpen v ⌝ }
 {
-    let kind = store::kind_at(nodes, row);
-    let dimension = store::dimension_at(nodes, row);
-    let parts = store::parts_at(nodes, row);
-    Visit {
-        row,
-        number,
-        kind,
-        dimension,
-        parts,
-        parent,
-        ends: 0,
-        more: false,
-    }
+    (v.kind != KIND_GEOMETRYCOLLECTION) | (v.parent.depth < DEPTH_LIMIT)
 }
 
-// A node with what ends where it does.
-fn ending(v: Visit, ends: usize, more: bool) -> Visit
-    ensures { λ r. ⌜ r ≡ ending v ends more ⌝ }
+// The frame of a node that is opened.
+fn opened(v: Visit) -> Frame
+    requires { ⌜ mayOpen v ≡ true ⌝ }
+    ensures { λ r. ⌜ r ≡ opened v ⌝ }
 {
-    let parent = v.parent;
-    Visit {
+    let mut depth = v.parent.depth;
+    if v.kind == KIND_GEOMETRYCOLLECTION {
+        depth += 1;
+    }
+    Frame {
         row: v.row,
-        number: v.number,
         kind: v.kind,
         dimension: v.dimension,
+        depth,
         parts: v.parts,
-        parent,
-        ends,
-        more,
+        next: 0,
     }
 }
 
-// A child has ended: passes the frames from `from` on that have no child to come, and the next has one fewer.
-fn close(frames: [Frame; FRAMES], from: usize) -> Closed
-    ensures { λ r. ⌜ r ≡ closeFrom frames from ⌝ }
+// A number by its lower and its upper half.
+fn joined(low: u32, high: u32) -> usize
+    ensures { λ r. ⌜ r ≡ low + high * half ⌝ }
 {
-    let mut top = from;
-    let mut ends: usize = 0;
-    while top < FRAMES {
-        let frame = frames[top];
-        if frame.left != 0 {
-            let mut open = frames;
-            open[top] = Frame {
-                row: frame.row,
-                kind: frame.kind,
-                dimension: frame.dimension,
-                depth: frame.depth,
-                left: frame.left - 1,
-            };
-            return Closed {
-                top,
-                ends,
-                frames: open,
-            };
-        }
-        if frame.kind != NO_KIND {
-            ends += 1;
-        }
-        top += 1;
+    (low as usize) + (high as usize) * HALF
+}
+
+fn frame_at(cells: &[u32; CELLS], top: usize) -> Frame
+    requires { ⌜ top < frames ⌝ }
+    ensures { λ r. ⌜ r ≡ frameAt (now (cells .entry)) top ⌝ }
+{
+    let at = top * FRAME_WIDTH;
+    Frame {
+        row: joined(cells[at + ROW_LOW], cells[at + ROW_HIGH]),
+        kind: cells[at + KIND],
+        dimension: cells[at + DIMENSION],
+        depth: cells[at + DEPTH],
+        parts: cells[at + PARTS],
+        next: cells[at + NEXT],
     }
-    Closed { top, ends, frames }
+}
+
+fn put_frame(cells: &mut [u32; CELLS], top: usize, f: Frame)
+    requires { ⌜ top < frames ⌝ }
+    ensures { λ _. ⌜ now (cells .exit) ≡ putFrame (now (cells .entry)) top f ⌝ }
+{
+    let at = top * FRAME_WIDTH;
+    cells[at + ROW_LOW] = (f.row % HALF) as u32;
+    cells[at + ROW_HIGH] = (f.row / HALF) as u32;
+    cells[at + KIND] = f.kind;
+    cells[at + DIMENSION] = f.dimension;
+    cells[at + DEPTH] = f.depth;
+    cells[at + PARTS] = f.parts;
+    cells[at + NEXT] = f.next;
+}
+
+// A child of the node in a frame has been met: the one after it comes next.
+fn put_next(cells: &mut [u32; CELLS], top: usize, next: u32)
+    requires { ⌜ top < frames ⌝ }
+    ensures { λ _. ⌜ now (cells .exit) ≡ putNext (now (cells .entry)) top next ⌝ }
+{
+    cells[top * FRAME_WIDTH + NEXT] = next;
+}
+
+// A walk that stands above the root.
+pub fn start(cells: &mut [u32; CELLS]) -> Walk
+    ensures { λ r. ⌜ (r, now (cells .exit)) ≡ beginning (now (cells .entry)) ⌝ }
+{
+    let above = Frame {
+        row: 0,
+        kind: NO_KIND,
+        dimension: 0,
+        depth: 0,
+        parts: 1,
+        next: 0,
+    };
+    let top = FRAMES - 1;
+    put_frame(cells, top, above);
+    Walk {
+        row: 0,
+        number: 0,
+        top,
+    }
+}
+
+// The difference, or 0 where it would be less.
+fn minus(a: usize, b: usize) -> usize
+    ensures { λ r. ⌜ r ≡ a - b ⌝ }
+{
+    if a < b { 0 } else { a - b }
+}
+
+// What comes next in the innermost frame.
+fn coming_in(f: Frame, w: Walk) -> Coming
+    requires { ⌜ w .top < frames ⌝ }
+    ensures { λ r. ⌜ r ≡ comingIn f w ⌝ }
+{
+    if f.next < f.parts {
+        return Coming::Child(f);
+    }
+    if f.kind == NO_KIND {
+        return Coming::Last;
+    }
+    Coming::End(
+        f.row,
+        minus(w.row, f.row),
+        Walk {
+            row: w.row,
+            number: w.number,
+            top: w.top + 1,
+        },
+    )
+}
+
+// What comes next of a walk.
+pub fn next(cells: &[u32; CELLS], w: Walk) -> Coming
+    ensures { λ r. ⌜ r ≡ comingNext (now (cells .entry)) w ⌝ }
+{
+    let top = w.top;
+    if top < FRAMES {
+        return coming_in(frame_at(cells, top), w);
+    }
+    Coming::Last
 }
 
 // Whether of `count` numbers there are `need` from `number` on.
@@ -221,162 +305,182 @@ fn has_numbers(count: usize, number: usize, need: usize) -> bool
     need <= count - number
 }
 
-// The step to a node without child rows: it takes its numbers, and the nodes end whose last child it is.
-fn pass(count: usize, c: Cursor, v: Visit) -> Step
-    requires { ⌜ HasNext c ⌝ }
-    ensures { λ r. ⌜ r ≡ passing count c v ⌝ }
+// A node without child rows is met: it takes its numbers.
+fn pass(cells: &mut [u32; CELLS], count: usize, w: Walk, v: Visit) -> Walked
+    requires { ⌜ HasChild w v ⌝ }
+    ensures { λ r. ⌜ (r, now (cells .exit)) ≡ passing (now (cells .entry)) count w v ⌝ }
 {
-    let number = c.number;
     let need = numbers_of(v);
-    if !has_numbers(count, number, need) {
-        return Step {
-            found: Found::Ill,
-            next: c,
+    if has_numbers(count, v.number, need) {
+        put_next(cells, w.top, v.parent.next + 1);
+        return Walked {
+            met: Met::Node(v),
+            next: Walk {
+                row: w.row + 1,
+                number: v.number + need,
+                top: w.top,
+            },
         };
     }
-    let open = c.frames;
-    let closed = close(open, c.top);
-    let frames = closed.frames;
-    Step {
-        found: Found::Node(ending(v, closed.ends, closed.top < FRAMES)),
-        next: Cursor {
-            row: c.row + 1,
-            number: number + need,
-            top: closed.top,
-            frames,
+    Walked {
+        met: Met::Ill,
+        next: w,
+    }
+}
+
+// A node whose children follow is met: it gets a frame, if there is one.
+fn push(cells: &mut [u32; CELLS], w: Walk, v: Visit) -> Walked
+    requires { ⌜ HasChild w v ⌝ }
+    ensures { λ r. ⌜ (r, now (cells .exit)) ≡ pushing (now (cells .entry)) w v ⌝ }
+{
+    let top = w.top;
+    if may_open(v) & (top != 0) {
+        put_next(cells, top, v.parent.next + 1);
+        put_frame(cells, top - 1, opened(v));
+        return Walked {
+            met: Met::Node(v),
+            next: Walk {
+                row: w.row + 1,
+                number: v.number,
+                top: top - 1,
+            },
+        };
+    }
+    Walked {
+        met: Met::Ill,
+        next: w,
+    }
+}
+
+// A node is met in its place, if it may stand there.
+fn meet(cells: &mut [u32; CELLS], count: usize, w: Walk, v: Visit) -> Walked
+    requires { ⌜ HasChild w v ⌝ }
+    ensures { λ r. ⌜ (r, now (cells .exit)) ≡ meeting (now (cells .entry)) count w v ⌝ }
+{
+    if is_allowed(v) {
+        if is_leaf(v) {
+            return pass(cells, count, w, v);
+        }
+        return push(cells, w, v);
+    }
+    Walked {
+        met: Met::Ill,
+        next: w,
+    }
+}
+
+// Meets a row by what it says, of rows that have `count` numbers; where no row is wanted it is ill.
+pub fn enter(
+    cells: &mut [u32; CELLS],
+    count: usize,
+    w: Walk,
+    kind: u32,
+    dimension: u32,
+    parts: u32,
+) -> Walked
+    ensures { λ r. ⌜ (r, now (cells .exit)) ≡ given (now (cells .entry)) count w (row kind dimension parts) ⌝ }
+{
+    let coming = next(cells, w);
+    match coming {
+        Coming::Child(parent) => {
+            if w.row < 18446744073709551615 {
+                let v = Visit {
+                    row: w.row,
+                    number: w.number,
+                    kind,
+                    dimension,
+                    parts,
+                    parent,
+                };
+                return meet(cells, count, w, v);
+            }
+            Walked {
+                met: Met::Ill,
+                next: w,
+            }
+        }
+        Coming::End(_, _, _) => Walked {
+            met: Met::Ill,
+            next: w,
+        },
+        Coming::Last => Walked {
+            met: Met::Ill,
+            next: w,
         },
     }
 }
 
-// The step to a node whose children follow, with the collections then open: it gets a frame, if there is one.
-fn push(c: Cursor, v: Visit, depth: u32) -> Step
-    requires { ⌜ Pushes c v ⌝ }
-    ensures { λ r. ⌜ r ≡ pushing c v depth ⌝ }
+// The node of a row below a parent.
+fn visit_at(nodes: &[u32], w: Walk, parent: Frame) -> Visit
+    ensures { λ r. ⌜ r ≡ visitOf (w .row) (w .number) parent (rowAt (now (nodes .entry)) (w .row)) ⌝ }
 {
-    let top = c.top;
-    if top == 0 {
-        return Step {
-            found: Found::Ill,
-            next: c,
-        };
+    let row = store::node_at(nodes, w.row);
+    Visit {
+        row: w.row,
+        number: w.number,
+        kind: row.kind,
+        dimension: row.dimension,
+        parts: row.parts,
+        parent,
     }
-    let mut frames = c.frames;
-    frames[top - 1] = Frame {
-        row: v.row,
-        kind: v.kind,
-        dimension: v.dimension,
-        depth,
-        left: v.parts - 1,
-    };
-    Step {
-        found: Found::Node(v),
-        next: Cursor {
-            row: c.row + 1,
-            number: c.number,
-            top: top - 1,
-            frames,
+}
+
+// The end of the walk: no row and no number is left.
+fn last(nodes: &[u32], count: usize, w: Walk) -> Met
+    ensures { λ r. ⌜ r ≡ lastOf (now (nodes .entry)) count w ⌝ }
+{
+    if (store::node_room(nodes) <= w.row) & (w.number == count) {
+        return Met::Done;
+    }
+    Met::Ill
+}
+
+// What is met next of rows that have `count` numbers.
+pub fn step(nodes: &[u32], count: usize, cells: &mut [u32; CELLS], w: Walk) -> Walked
+    ensures { λ r. ⌜ (r, now (cells .exit)) ≡ step (now (nodes .entry)) count (now (cells .entry)) w ⌝ }
+{
+    let coming = next(cells, w);
+    match coming {
+        Coming::Child(parent) => {
+            if w.row < store::node_room(nodes) {
+                return meet(cells, count, w, visit_at(nodes, w, parent));
+            }
+            Walked {
+                met: Met::Ill,
+                next: w,
+            }
+        }
+        Coming::End(row, rows, after) => Walked {
+            met: Met::End(row, rows),
+            next: after,
+        },
+        Coming::Last => Walked {
+            met: last(nodes, count, w),
+            next: w,
         },
     }
-}
-
-// The step to a node whose children follow.
-fn enter(c: Cursor, v: Visit) -> Step
-    requires { ⌜ Pushes c v ⌝ }
-    ensures { λ r. ⌜ r ≡ entering c v ⌝ }
-{
-    let depth = v.parent.depth;
-    if v.kind != KIND_GEOMETRYCOLLECTION {
-        return push(c, v, depth);
-    }
-    if DEPTH_LIMIT <= depth {
-        return Step {
-            found: Found::Ill,
-            next: c,
-        };
-    }
-    push(c, v, depth + 1)
-}
-
-// The step after the last row: no node is open, and no number is left.
-fn end(count: usize, c: Cursor) -> Step
-    ensures { λ r. ⌜ r ≡ atEnd count c ⌝ }
-{
-    if (FRAMES <= c.top) & (c.number == count) {
-        return Step {
-            found: Found::Done,
-            next: c,
-        };
-    }
-    Step {
-        found: Found::Ill,
-        next: c,
-    }
-}
-
-// A walk that stands above the root.
-pub fn start() -> Cursor
-    ensures { λ r. ⌜ r ≡ begin ⌝ }
-{
-    let above = Frame {
-        row: 0,
-        kind: NO_KIND,
-        dimension: 0,
-        depth: 0,
-        left: 0,
-    };
-    Cursor {
-        row: 0,
-        number: 0,
-        top: FRAMES - 1,
-        frames: [above; FRAMES],
-    }
-}
-
-// The next node of rows that have `count` numbers.
-pub fn next(nodes: &[u32], count: usize, c: Cursor) -> Step
-    ensures { λ r. ⌜ r ≡ step (now (nodes .entry)) count c ⌝ }
-{
-    let row = c.row;
-    let top = c.top;
-    if store::node_room(nodes) <= row {
-        return end(count, c);
-    }
-    if FRAMES <= top {
-        return Step {
-            found: Found::Ill,
-            next: c,
-        };
-    }
-    let frames = c.frames;
-    let v = visit_at(nodes, row, c.number, frames[top]);
-    if !is_allowed(v) {
-        return Step {
-            found: Found::Ill,
-            next: c,
-        };
-    }
-    if is_leaf(v) {
-        return pass(count, c, v);
-    }
-    enter(c, v)
 }
 
 // Whether the rows are exactly one tree that needs `count` numbers.
 fn is_tree(nodes: &[u32], count: usize) -> bool
-    ensures { λ r. ⌜ r ≡ isTree (now (nodes .entry)) count ⌝ }
+    ensures { λ r. ⌜ r ≡ isSome (wholeWalk (now (nodes .entry)) count) ⌝ }
 {
-    let mut c = start();
+    let mut cells = [0; CELLS];
+    let mut w = start(&mut cells);
     loop {
-        let s = next(nodes, count, c);
-        let found = s.found;
-        match found {
-            Found::Node(_) => {
-                c = s.next;
+        let s = step(nodes, count, &mut cells, w);
+        let met = s.met;
+        match met {
+            Met::Node(_) => {
+                w = s.next;
             }
-            Found::Done => {
+            Met::End(_, _) => {
+                w = s.next;
+            }
+            Met::Done => {
                 return true;
             }
-            Found::Ill => {
+            Met::Ill => {
                 return false;
             }
         }
@@ -425,15 +529,22 @@ fn are_numbers(text: &[u8], numbers: &[u32]) -> bool
     true
 }
 
-// Whether a store is well formed.
-pub fn check(text: &[u8], nodes: &[u32], numbers: &[u32]) -> bool
-    ensures { λ r. ⌜ r ≡ wellFormed (now (text .entry)) (now (nodes .entry)) (now (numbers .entry)) ⌝ }
+// Whether the slices hold whole rows, and each number lies in the text and is a lexeme.
+pub fn are_rows(text: &[u8], nodes: &[u32], numbers: &[u32]) -> bool
+    ensures { λ r. ⌜ r ≡ areRows (now (text .entry)) (now (nodes .entry)) (now (numbers .entry)) ⌝ }
 {
     if (nodes.len() % NODE_WIDTH != 0) | (numbers.len() % NUMBER_WIDTH != 0) {
         return false;
     }
-    if !is_tree(nodes, store::number_room(numbers)) {
-        return false;
-    }
     are_numbers(text, numbers)
+}
+
+// Whether a store is well formed.
+pub fn check(text: &[u8], nodes: &[u32], numbers: &[u32]) -> bool
+    ensures { λ r. ⌜ r ≡ wellFormed (now (text .entry)) (now (nodes .entry)) (now (numbers .entry)) ⌝ }
+{
+    if are_rows(text, nodes, numbers) {
+        return is_tree(nodes, store::number_room(numbers));
+    }
+    false
 }

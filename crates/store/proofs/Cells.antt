@@ -7,16 +7,26 @@ use native.Mathlib.Omega.{arith}
 use native.Mathlib.Numerals.{add-one}
 use native.Mathlib.Nat.{zero-mul, suc-mul, mul-comm, mul-le-mul-left, mul-le-mul-right, mul-div-le}
 use native.Mathlib.Decide.{decLt}
-use borrow.Author.Tests.{lt-ltb, le-ltb}
+use borrow.Author.Tests.{lt-ltb, le-ltb, le-leb, lt-leb}
 use lib.ListN.{length, getD, set, take, drop, length-append, length-drop, List·getD-append}
 use lib.Seq.{sets, length-sets, sets-eq, getD-set-other, getD-append-add, length-take-le, take-suc, take-add, getD-drop}
-use Rattle.store.specs.Rows.{cell, put, firsts}
+use Rattle.store.specs.Rows.{placesOf, cell, put, firsts}
 
 -- a row that there is room for lies in the slice
 pub row-fits : (w : ℕ) (s : List ℕ) (i : ℕ) → i < length s / w → i * w + w ≤ length s
 row-fits w s i h =
     let e : i * w + w ≡ w * suc i = sym (suc-mul i w) ∙ mul-comm (suc i) w in
     omega (arith, mul-le-mul-left w h, mul-div-le (length s) w)
+
+-- the places of the first rows: those of as many, or all of them
+module _ (w : ℕ) (s : List ℕ) (n : ℕ) where
+  pub places-some : n ≤ length s / w → (n * w ≡ placesOf w s n) × (n * w ≤ length s)
+  unfolding placesOf
+  places-some h = (rw (le-leb n (length s / w) h), omega (arith, mul-le-mul-right w h, mul-comm (length s / w) w, mul-div-le (length s) w))
+
+  pub places-all : length s / w < n → (length s ≡ placesOf w s n) × (length s ≤ length s)
+  unfolding placesOf
+  places-all h = (rw (lt-leb n (length s / w) h), omega arith)
 
 -- the places of another row lie before a row or after it
 apart : (w i j c : ℕ) → (j ≡ i → ⊥) → c < w → i * w ≤ j * w + c → i * w + w ≤ j * w + c

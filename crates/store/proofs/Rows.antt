@@ -1,14 +1,16 @@
 -- Laws of node rows and number rows: what a slice holds after a put, as numbers, and when cleared after its rows.
 -- Assumes nothing.
 use mathlib.Core.Path.{_≡_, refl, sym, ap, _∙_}
-use mathlib.Core.List.{List, [], _∷_, _++_}
-use Prim.Native.Nat.{ℕ, zero, suc, _+_, _*_, _≤_, _<_}
+use mathlib.Core.List.{List, [], _∷_, _++_, flatMap}
+use Prim.Native.Nat.{ℕ, zero, suc, _+_, _-_, _*_, _/_, _≤_, _<_}
 use native.Mathlib.Omega.{arith}
 use native.Mathlib.Numerals.{unary-clauses}
 use native.Mathlib.Decide.{decLt}
 use native.Mathlib.Nat.{le-of-suc-le-suc}
-use lib.ListN.{length, set, take, length-append}
-use Rattle.store.specs.Rows.{nodeWidth, numberWidth, kindColumn, dimensionColumn, partsColumn, startColumn, lengthColumn, nodeRoom, numberRoom, put, firsts, Row, row, spanOf, kindAt, dimensionAt, partsAt, rowAt, spanAt, rowsIn, spansIn, putRow, putParts, putSpan, setParts, rowNumbers, spanNumbers, flatRows, flatSpans, padded, cleared}
+use lib.Dec.{ltb}
+use lib.ListN.{length, getD, set, take, length-append}
+use Rattle.lists.proofs.Cases.{either}
+use Rattle.store.specs.Rows.{nodeWidth, numberWidth, kindColumn, dimensionColumn, partsColumn, startColumn, lengthColumn, nodeRoom, numberRoom, cell, put, firsts, Row, freshRow, closed, partsAt, spanOf, rowAt, spanAt, rowsIn, spansIn, openRow, closeRow, putSpan, closeIn, rowNumbers, spanNumbers, flatRows, flatSpans, zeros, padded, cleared}
 use Rattle.store.proofs.Cells.{put-in, put-length, put-before, put-here, put-there, snoc, firsts-length, firsts-same, firsts-put, firsts-flat}
 use Rattle.store.proofs.Zeros.{cleared-padded}
 
@@ -37,9 +39,9 @@ module _ (text ms : List ℕ) where
   spans-cleared m h = cleared-padded ms (flatSpans (spansIn text ms m)) (m * numberWidth) (spans-flat m h) (omega arith)
 
 -- the puts as stores, one for each column
-pub putRow-in : (ns : List ℕ) (i k d p : ℕ) → i < nodeRoom ns → set (set (set ns (i * nodeWidth + kindColumn) k) (i * nodeWidth + dimensionColumn) d) (i * nodeWidth + partsColumn) p ≡ putRow ns i k d p
-unfolding putRow
-putRow-in ns i k d p h = rw (put-in nodeWidth ns i kindColumn (k ∷ d ∷ p ∷ []) h) (simp unary-clauses)
+pub openRow-in : (ns : List ℕ) (i k d : ℕ) → i < nodeRoom ns → set (set (set ns (i * nodeWidth + kindColumn) k) (i * nodeWidth + dimensionColumn) d) (i * nodeWidth + partsColumn) 0 ≡ openRow ns i k d
+unfolding openRow
+openRow-in ns i k d h = rw (put-in nodeWidth ns i kindColumn (rowNumbers (freshRow k d)) h) (simp unary-clauses)
 
 pub putSpan-in : (ms : List ℕ) (i start len : ℕ) → i < numberRoom ms → set (set ms (i * numberWidth + startColumn) start) (i * numberWidth + lengthColumn) len ≡ putSpan ms i start len
 unfolding putSpan
@@ -51,28 +53,28 @@ row-there ns i c vs f j o =
     let is = put-there nodeWidth ns i c vs f j o in
     rw (is 0 (omega arith), is 1 (omega arith), is 2 (omega arith))
 
-module _ (ns : List ℕ) (i k d p : ℕ) where
-  pub putRow-length : length (putRow ns i k d p) ≡ length ns
-  unfolding putRow
-  putRow-length = put-length nodeWidth ns i kindColumn (k ∷ d ∷ p ∷ [])
+module _ (ns : List ℕ) (i k d : ℕ) where
+  pub openRow-length : length (openRow ns i k d) ≡ length ns
+  unfolding openRow
+  openRow-length = put-length nodeWidth ns i kindColumn (rowNumbers (freshRow k d))
 
-  row-here : i < nodeRoom ns → rowAt (putRow ns i k d p) i ≡ row k d p
-  unfolding putRow
+  row-here : i < nodeRoom ns → rowAt (openRow ns i k d) i ≡ freshRow k d
+  unfolding openRow
   row-here h =
-      let is = put-here nodeWidth ns i kindColumn (k ∷ d ∷ p ∷ []) (omega arith) h in
+      let is = put-here nodeWidth ns i kindColumn (rowNumbers (freshRow k d)) (omega arith) h in
       rw (is 0 (omega arith), is 1 (omega arith), is 2 (omega arith))
 
-  others : (j : ℕ) → (j ≡ i → ⊥) → rowAt (putRow ns i k d p) j ≡ rowAt ns j
-  unfolding putRow
-  others = row-there ns i kindColumn (k ∷ d ∷ p ∷ []) (omega arith)
+  others : (j : ℕ) → (j ≡ i → ⊥) → rowAt (openRow ns i k d) j ≡ rowAt ns j
+  unfolding openRow
+  others = row-there ns i kindColumn (rowNumbers (freshRow k d)) (omega arith)
 
-  pub rows-put : i < nodeRoom ns → rowsIn (putRow ns i k d p) (i + 1) ≡ rowsIn ns i ++ (row k d p ∷ [])
+  pub rows-opened : i < nodeRoom ns → rowsIn (openRow ns i k d) (i + 1) ≡ rowsIn ns i ++ (freshRow k d ∷ [])
   unfolding rowsIn
-  rows-put h = firsts-put (rowAt ns) (rowAt (putRow ns i k d p)) i (row k d p) others (row-here h)
+  rows-opened h = firsts-put (rowAt ns) (rowAt (openRow ns i k d)) i (freshRow k d) others (row-here h)
 
-  pub rows-before : (n : ℕ) → n ≤ i → rowsIn (putRow ns i k d p) n ≡ rowsIn ns n
+  pub rows-before : (n : ℕ) → n ≤ i → rowsIn (openRow ns i k d) n ≡ rowsIn ns n
   unfolding rowsIn
-  rows-before n h = firsts-same (rowAt ns) (rowAt (putRow ns i k d p)) n (λ j l. others j (λ z. omega arith))
+  rows-before n h = firsts-same (rowAt ns) (rowAt (openRow ns i k d)) n (λ j l. others j (λ z. omega arith))
 
 module _ (ms : List ℕ) (i start len : ℕ) where
   pub putSpan-length : length (putSpan ms i start len) ≡ length ms
@@ -100,60 +102,98 @@ module _ (ms : List ℕ) (i start len : ℕ) where
     unfolding spansIn
     spans-before m h = firsts-same (spanAt text ms) (spanAt text (putSpan ms i start len)) m (λ j l. span-there j (λ z. omega arith))
 
-pub setParts-length : (rs : List Row) (i v : ℕ) → length (setParts rs i v) ≡ length rs
-unfolding setParts
-setParts-length [] i v = refl
-setParts-length (row k d p ∷ rs) zero v = refl
-setParts-length (row k d p ∷ rs) (suc i) v = ap suc (setParts-length rs i v)
+pub closeIn-length : (rs : List Row) (i v : ℕ) → length (closeIn rs i v) ≡ length rs
+unfolding closeIn
+closeIn-length [] i v = refl
+closeIn-length (r ∷ rs) zero v = refl
+closeIn-length (r ∷ rs) (suc i) v = ap suc (closeIn-length rs i v)
 
-pub setParts-seam : (a : List Row) (k d p : ℕ) (b : List Row) (v : ℕ) → setParts (a ++ row k d p ∷ b) (length a) v ≡ a ++ row k d v ∷ b
-unfolding setParts
-setParts-seam [] k d p b v = refl
-setParts-seam (r ∷ a) k d p b v = ap (λ l. r ∷ l) (setParts-seam a k d p b v)
+pub closeIn-seam : (a : List Row) (r : Row) (b : List Row) (v : ℕ) → closeIn (a ++ r ∷ b) (length a) v ≡ a ++ closed r v ∷ b
+unfolding closeIn
+closeIn-seam [] r b v = refl
+closeIn-seam (q ∷ a) r b v = ap (λ l. q ∷ l) (closeIn-seam a r b v)
 
-pub setParts-at : (a : List Row) (k d p : ℕ) (b : List Row) (i v : ℕ) → length a ≡ i → setParts (a ++ row k d p ∷ b) i v ≡ a ++ row k d v ∷ b
-setParts-at a k d p b i v e = rw (← e) (setParts-seam a k d p b v)
+pub closeIn-at : (a : List Row) (r : Row) (b : List Row) (i v : ℕ) → length a ≡ i → closeIn (a ++ r ∷ b) i v ≡ a ++ closed r v ∷ b
+closeIn-at a r b i v e = rw (← e) (closeIn-seam a r b v)
 
-pub setParts-left : (a b : List Row) (i v : ℕ) → i < length a → setParts (a ++ b) i v ≡ setParts a i v ++ b
-unfolding setParts
-setParts-left [] b i v h = absurd (omega arith)
-setParts-left (row k d p ∷ a) b zero v h = refl
-setParts-left (row k d p ∷ a) b (suc i) v h = ap (λ l. row k d p ∷ l) (setParts-left a b i v (le-of-suc-le-suc h))
+pub closeIn-left : (a b : List Row) (i v : ℕ) → i < length a → closeIn (a ++ b) i v ≡ closeIn a i v ++ b
+unfolding closeIn
+closeIn-left [] b i v h = absurd (omega arith)
+closeIn-left (r ∷ a) b zero v h = refl
+closeIn-left (r ∷ a) b (suc i) v h = ap (λ l. r ∷ l) (closeIn-left a b i v (le-of-suc-le-suc h))
 
-pub setParts-past : (a : List Row) (i v : ℕ) → length a ≤ i → setParts a i v ≡ a
-unfolding setParts
-setParts-past [] i v h = refl
-setParts-past (row k d p ∷ a) zero v h = absurd (omega arith)
-setParts-past (row k d p ∷ a) (suc i) v h = ap (λ l. row k d p ∷ l) (setParts-past a i v (le-of-suc-le-suc h))
+pub closeIn-past : (a : List Row) (i v : ℕ) → length a ≤ i → closeIn a i v ≡ a
+unfolding closeIn
+closeIn-past [] i v h = refl
+closeIn-past (r ∷ a) zero v h = absurd (omega arith)
+closeIn-past (r ∷ a) (suc i) v h = ap (λ l. r ∷ l) (closeIn-past a i v (le-of-suc-le-suc h))
 
 module _ (ns : List ℕ) (i v : ℕ) where
-  pub putParts-length : length (putParts ns i v) ≡ length ns
-  unfolding putParts
-  putParts-length = put-length nodeWidth ns i partsColumn (v ∷ [])
+  pub closeRow-length : length (closeRow ns i v) ≡ length ns
+  unfolding closeRow
+  closeRow-length = put-length nodeWidth ns i partsColumn (v ∷ [])
 
-  part-here : i < nodeRoom ns → rowAt (putParts ns i v) i ≡ row (kindAt ns i) (dimensionAt ns i) v
-  unfolding putParts
+  part-here : i < nodeRoom ns → rowAt (closeRow ns i v) i ≡ closed (rowAt ns i) v
+  unfolding closeRow
   part-here h =
       let stays = put-before nodeWidth ns i partsColumn (v ∷ []) in
       rw (stays 0 (omega arith), stays 1 (omega arith), put-here nodeWidth ns i partsColumn (v ∷ []) (omega arith) h 0 (omega arith))
 
-  part-there : (j : ℕ) → (j ≡ i → ⊥) → rowAt (putParts ns i v) j ≡ rowAt ns j
-  unfolding putParts
+  part-there : (j : ℕ) → (j ≡ i → ⊥) → rowAt (closeRow ns i v) j ≡ rowAt ns j
+  unfolding closeRow
   part-there = row-there ns i partsColumn (v ∷ []) (omega arith)
 
-  pub rows-parts : i < nodeRoom ns → (n : ℕ) → rowsIn (putParts ns i v) n ≡ setParts (rowsIn ns n) i v
+  pub rows-closed : i < nodeRoom ns → (n : ℕ) → rowsIn (closeRow ns i v) n ≡ closeIn (rowsIn ns n) i v
   unfolding rowsIn firsts
-  rows-parts h zero = sym (setParts-past [] i v (omega arith))
-  rows-parts h (suc n) = go (rows-parts h n) (decLt i n) (decLt n i)
+  rows-closed h zero = sym (closeIn-past [] i v (omega arith))
+  rows-closed h (suc n) = go (rows-closed h n) (decLt i n) (decLt n i)
     where
       len : length (rowsIn ns n) ≡ n
       len = rows-length ns n
 
-      go : rowsIn (putParts ns i v) n ≡ setParts (rowsIn ns n) i v → Dec (i < n) → Dec (n < i) → rowsIn (putParts ns i v) n ++ (rowAt (putParts ns i v) n ∷ []) ≡ setParts (rowsIn ns n ++ (rowAt ns n ∷ [])) i v
-      go ih (yes a) b = snoc ih (part-there n (λ z. omega arith)) ∙ sym (setParts-left (rowsIn ns n) (rowAt ns n ∷ []) i v (omega (arith, len)))
+      go : rowsIn (closeRow ns i v) n ≡ closeIn (rowsIn ns n) i v → Dec (i < n) → Dec (n < i) → rowsIn (closeRow ns i v) n ++ (rowAt (closeRow ns i v) n ∷ []) ≡ closeIn (rowsIn ns n ++ (rowAt ns n ∷ [])) i v
+      go ih (yes a) b = snoc ih (part-there n (λ z. omega arith)) ∙ sym (closeIn-left (rowsIn ns n) (rowAt ns n ∷ []) i v (omega (arith, len)))
       go ih (no a) (yes b) =
           let past : length (rowsIn ns n ++ (rowAt ns n ∷ [])) ≤ i = simp length-append (omega (arith, len)) in
-          snoc (ih ∙ setParts-past (rowsIn ns n) i v (omega (arith, len))) (part-there n (λ z. omega arith)) ∙ sym (setParts-past (rowsIn ns n ++ (rowAt ns n ∷ [])) i v past)
+          snoc (ih ∙ closeIn-past (rowsIn ns n) i v (omega (arith, len))) (part-there n (λ z. omega arith)) ∙ sym (closeIn-past (rowsIn ns n ++ (rowAt ns n ∷ [])) i v past)
       go ih (no a) (no b) =
           let e : n ≡ i = omega arith in
-          snoc (ih ∙ setParts-past (rowsIn ns n) i v (omega (arith, len))) (ap (rowAt (putParts ns i v)) e ∙ part-here h) ∙ sym (ap (λ j. setParts (rowsIn ns n ++ (rowAt ns j ∷ [])) i v) e ∙ setParts-at (rowsIn ns n) (kindAt ns i) (dimensionAt ns i) (partsAt ns i) [] i v (len ∙ e))
+          snoc (ih ∙ closeIn-past (rowsIn ns n) i v (omega (arith, len))) (ap (rowAt (closeRow ns i v)) e ∙ part-here h) ∙ sym (ap (λ j. closeIn (rowsIn ns n ++ (rowAt ns j ∷ [])) i v) e ∙ closeIn-at (rowsIn ns n) (rowAt ns i) [] i v (len ∙ e))
+
+-- ---- rows and their numbers
+pub rows-wide : (rs : List Row) → length (flatRows rs) ≡ length rs * nodeWidth
+unfolding flatRows flatMap
+rows-wide [] = refl
+rows-wide (r ∷ rs) = let z : length (flatRows rs) ≡ length rs * nodeWidth = rows-wide rs in omega (arith, z)
+
+row-one : (a b : Row) (l l′ : List ℕ) → rowNumbers a ++ l ≡ rowNumbers b ++ l′ → (a ≡ b) × (l ≡ l′)
+row-one a b l l′ e =
+    let k : a .kind ≡ b .kind = cc in
+    let d : a .dimension ≡ b .dimension = cc in
+    let n : a .parts ≡ b .parts = cc in
+    (rw (k, d, n), cc)
+
+-- rows are those of their numbers
+pub rows-one : (a b : List Row) → flatRows a ≡ flatRows b → a ≡ b
+unfolding flatRows flatMap
+rows-one [] [] e = refl
+rows-one [] (r ∷ b) e = let z : _≡_ {A = ℕ} 0 1 = cc in absurd (omega arith)
+rows-one (r ∷ a) [] e = let z : _≡_ {A = ℕ} 0 1 = cc in absurd (omega arith)
+rows-one (r ∷ a) (q ∷ b) e =
+    let u = row-one r q (flatRows a) (flatRows b) e in
+    let v : a ≡ b = rows-one a b (u .1) in
+    rw (u .0, v)
+
+zero-at : (m i : ℕ) → getD (zeros m) i 0 ≡ 0
+zero-at zero i = refl
+zero-at (suc m) zero = refl
+zero-at (suc m) (suc i) = zero-at m i
+
+-- the parts of the first row of a slice that has no row, and of one that has
+pub no-row-parts : (n : ℕ) → partsAt (padded (flatRows []) n) 0 ≡ 0
+unfolding cell flatRows flatMap
+no-row-parts n = either (ltb 0 (length (zeros (n - 0)) / nodeWidth)) (λ (x : ℕ). x ≡ 0) _ _ (λ b. zero-at (n - 0) partsColumn) λ b. refl
+
+pub first-parts : (r : Row) (rs : List Row) (n : ℕ) → r .parts ≡ 0 → partsAt (padded (flatRows (r ∷ rs)) n) 0 ≡ 0
+unfolding cell flatRows flatMap
+first-parts r rs n e = either (ltb 0 (length (padded (flatRows (r ∷ rs)) n) / nodeWidth)) (λ (x : ℕ). x ≡ 0) _ _ (λ b. e) λ b. refl

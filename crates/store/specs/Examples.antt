@@ -1,12 +1,18 @@
 -- Worked examples of this crate's definitions, by computation.
 use mathlib.Core.Path.{_≡_, refl}
-use mathlib.Core.List.{List, [], _∷_, flatMap}
+use mathlib.Core.List.{List, [], _∷_, map, flatMap}
 use Prim.Native.Nat.{ℕ}
-use Rattle.store.specs.Rows.{nodeRoom, numberRoom, cell, put, firsts, Row, row, span, kindAt, rowsIn, spansIn, putRow, putParts, putSpan, setParts, flatRows, flatSpans, padded, cleared}
+use lib.ListN.{take}
+use Rattle.store.specs.Rows.{nodeRoom, numberRoom, placesOf, cell, put, firsts, Row, row, span, kindAt, dimensionAt, partsAt, startAt, lengthAt, nodeWidth, numberWidth, rowsIn, spansIn, openRow, closeRow, putSpan, closeIn, flatRows, flatSpans, padded, cleared}
 
 -- two rows, and one number that makes no row
 nodes : List ℕ
 nodes = 7 ∷ 1 ∷ 9 ∷ 1 ∷ 0 ∷ 1 ∷ 5 ∷ []
+
+-- slices of 0 to 6 numbers
+sliced : List (List ℕ)
+unfolding nodes
+sliced = map (λ n. take n nodes) (0 ∷ 1 ∷ 2 ∷ 3 ∷ 4 ∷ 5 ∷ 6 ∷ [])
 
 collection : Row
 collection = row 7 1 9
@@ -15,7 +21,7 @@ point : Row
 point = row 1 0 1
 
 all : ℕ
-unfolding nodes collection point cell put firsts rowsIn spansIn putRow putParts putSpan setParts flatRows flatSpans flatMap cleared
+unfolding nodes collection point placesOf cell put firsts rowsIn spansIn openRow closeRow putSpan closeIn flatRows flatSpans flatMap cleared
 all = 0
 
 -- seven numbers have room for two node rows, or for three number rows
@@ -23,18 +29,23 @@ room : (nodeRoom nodes ≡ 2) × (numberRoom nodes ≡ 3) × (nodeRoom [] ≡ 0)
 unfolding all
 room = (refl, refl, refl)
 
+-- the places of the first two node rows, and of three, of which there are two
+used : (placesOf 3 nodes 0 ≡ 0) × (placesOf 3 nodes 2 ≡ 6) × (placesOf 3 nodes 3 ≡ 7) × (placesOf 2 nodes 3 ≡ 6)
+unfolding all
+used = (refl, refl, refl, refl)
+
 -- where a row is not whole, or there is none, its kind is 0
 held : (rowsIn nodes 2 ≡ collection ∷ point ∷ []) × (kindAt nodes 1 ≡ 1) × (kindAt nodes 2 ≡ 0) × (kindAt nodes 4 ≡ 0)
 unfolding all
 held = (refl, refl, refl, refl)
 
--- row 0 is overwritten; a row that is not whole is left alone
-puts : (putRow nodes 0 2 3 4 ≡ 2 ∷ 3 ∷ 4 ∷ 1 ∷ 0 ∷ 1 ∷ 5 ∷ []) × (putRow nodes 2 2 3 4 ≡ nodes)
+-- row 0 is opened; a row that is not whole is left alone
+puts : (openRow nodes 0 2 3 ≡ 2 ∷ 3 ∷ 0 ∷ 1 ∷ 0 ∷ 1 ∷ 5 ∷ []) × (openRow nodes 2 2 3 ≡ nodes)
 unfolding all
 puts = (refl, refl)
 
--- only the parts of row 0 change
-parts : (putParts nodes 0 1 ≡ 7 ∷ 1 ∷ 1 ∷ 1 ∷ 0 ∷ 1 ∷ 5 ∷ []) × (putParts nodes 2 1 ≡ nodes) × (setParts (collection ∷ point ∷ []) 0 1 ≡ row 7 1 1 ∷ point ∷ []) × (setParts (point ∷ []) 1 4 ≡ point ∷ [])
+-- row 0 is closed: only its parts change
+parts : (closeRow nodes 0 1 ≡ 7 ∷ 1 ∷ 1 ∷ 1 ∷ 0 ∷ 1 ∷ 5 ∷ []) × (closeRow nodes 2 1 ≡ nodes) × (closeIn (collection ∷ point ∷ []) 0 1 ≡ row 7 1 1 ∷ point ∷ []) × (closeIn (point ∷ []) 1 4 ≡ point ∷ [])
 unfolding all
 parts = (refl, refl, refl, refl)
 
@@ -51,3 +62,22 @@ flat = (refl, refl)
 unused : (cleared nodes 3 ≡ 7 ∷ 1 ∷ 9 ∷ 0 ∷ 0 ∷ 0 ∷ 0 ∷ []) × (cleared nodes 3 ≡ padded (7 ∷ 1 ∷ 9 ∷ []) 7) × (cleared nodes 8 ≡ nodes)
 unfolding all
 unused = (refl, refl, refl)
+
+-- "Nodes are rows of three u32", "Numbers are rows of two u32"
+widths : (_≡_ {A = ℕ} nodeWidth 3) × (_≡_ {A = ℕ} numberWidth 2)
+widths = (refl, refl)
+
+-- each column of the rows: kind, dimension, parts; start, length
+columns : (kindAt nodes 0 ≡ 7) × (dimensionAt nodes 0 ≡ 1) × (partsAt nodes 0 ≡ 9) × (startAt nodes 0 ≡ 7) × (lengthAt nodes 0 ≡ 1) × (startAt nodes 2 ≡ 0) × (lengthAt nodes 2 ≡ 1) × (startAt nodes 3 ≡ 0) × (lengthAt nodes 3 ≡ 0)
+unfolding all
+columns = (refl, refl, refl, refl, refl, refl, refl, refl, refl)
+
+-- "rounded down": the room for node rows and for number rows of slices of 0 to 6 numbers
+rooms : (map nodeRoom sliced ≡ 0 ∷ 0 ∷ 0 ∷ 1 ∷ 1 ∷ 1 ∷ 2 ∷ []) × (map numberRoom sliced ≡ 0 ∷ 0 ∷ 1 ∷ 1 ∷ 2 ∷ 2 ∷ 3 ∷ [])
+unfolding all sliced
+rooms = (refl, refl)
+
+-- the last row, and one past it
+lasts : (openRow nodes 1 2 3 ≡ 7 ∷ 1 ∷ 9 ∷ 2 ∷ 3 ∷ 0 ∷ 5 ∷ []) × (closeRow nodes 1 4 ≡ 7 ∷ 1 ∷ 9 ∷ 1 ∷ 0 ∷ 4 ∷ 5 ∷ []) × (putSpan nodes 2 8 6 ≡ 7 ∷ 1 ∷ 9 ∷ 1 ∷ 8 ∷ 6 ∷ 5 ∷ []) × (putSpan nodes 3 8 6 ≡ nodes) × (cleared nodes 0 ≡ 0 ∷ 0 ∷ 0 ∷ 0 ∷ 0 ∷ 0 ∷ 0 ∷ []) × (cleared nodes 6 ≡ 7 ∷ 1 ∷ 9 ∷ 1 ∷ 0 ∷ 1 ∷ 0 ∷ []) × (cleared nodes 7 ≡ nodes)
+unfolding all
+lasts = (refl, refl, refl, refl, refl, refl, refl)

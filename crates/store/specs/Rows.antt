@@ -2,9 +2,10 @@
 use Prim.Native.Nat.{ℕ, zero, suc, _+_, _-_, _*_, _/_}
 use mathlib.Core.Bool.{cond}
 use mathlib.Core.List.{List, [], _∷_, _++_, flatMap}
-use lib.Dec.{ltb}
+use lib.Dec.{ltb, leb}
 use lib.ListN.{length, getD, take, drop, replicate}
 use lib.Seq.{sets}
+use Rattle.store.specs.declared.NodeRow.{NodeRow}
 
 -- "Nodes are rows of three u32", "Numbers are rows of two u32": the widths stand here alone
 abbrev pub nodeWidth : ℕ
@@ -37,6 +38,10 @@ nodeRoom ns = length ns / nodeWidth
 abbrev pub numberRoom : List ℕ → ℕ
 numberRoom ms = length ms / numberWidth
 
+-- how many places the first n rows of width w take, or all of them where there are fewer rows
+unfoldable pub placesOf : ℕ → List ℕ → ℕ → ℕ
+placesOf w s n = cond (leb n (length s / w)) (n * w) (length s)
+
 -- the number in column c of row i, of rows of width w: 0 where there is no such row
 unfoldable pub cell : ℕ → List ℕ → ℕ → ℕ → ℕ
 cell w s i c = cond (ltb i (length s / w)) (getD s (i * w + c) 0) 0
@@ -50,9 +55,26 @@ unfoldable pub firsts : {A : Type 0} → (ℕ → A) → ℕ → List A
 firsts f zero = []
 firsts f (suc n) = firsts f n ++ (f n ∷ [])
 
--- kind, dimension and parts of a node
-pub data Row : Type 0 where
-  row : ℕ → ℕ → ℕ → Row
+-- what a node row says; others take a row apart by these names alone
+pub record Row : Type 0 where
+  pub kind : ℕ
+  pub dimension : ℕ
+  pub parts : ℕ
+
+abbrev pub row : ℕ → ℕ → ℕ → Row
+row k d n = record { kind = k; dimension = d; parts = n }
+
+-- a row that is opened: its parts aren't counted yet
+abbrev pub freshRow : ℕ → ℕ → Row
+freshRow k d = row k d 0
+
+-- a row that is closed: "parts filled in after the children"
+abbrev pub closed : Row → ℕ → Row
+closed r parts = row (r .kind) (r .dimension) parts
+
+-- rows as numbers
+abbrev pub rowNumbers : Row → List ℕ
+rowNumbers r = r .kind ∷ r .dimension ∷ r .parts ∷ []
 
 -- start, length and bytes of a number's text
 pub data Span : Type 0 where
@@ -69,6 +91,10 @@ partsAt ns i = cell nodeWidth ns i partsColumn
 
 abbrev pub rowAt : List ℕ → ℕ → Row
 rowAt ns i = row (kindAt ns i) (dimensionAt ns i) (partsAt ns i)
+
+-- a row as the code gives it
+abbrev pub asRow : NodeRow → Row
+asRow r = row (r .kind) (r .dimension) (r .parts)
 
 abbrev pub startAt : List ℕ → ℕ → ℕ
 startAt ms i = cell numberWidth ms i startColumn
@@ -91,24 +117,21 @@ rowsIn ns n = firsts (rowAt ns) n
 unfoldable pub spansIn : List ℕ → List ℕ → ℕ → List Span
 spansIn text ms m = firsts (spanAt text ms) m
 
-unfoldable pub putRow : List ℕ → ℕ → ℕ → ℕ → ℕ → List ℕ
-putRow ns i k d p = put nodeWidth ns i kindColumn (k ∷ d ∷ p ∷ [])
+-- row i opened, with all its columns; and closed, with what follows from its parts
+unfoldable pub openRow : List ℕ → ℕ → ℕ → ℕ → List ℕ
+openRow ns i k d = put nodeWidth ns i kindColumn (rowNumbers (freshRow k d))
 
-unfoldable pub putParts : List ℕ → ℕ → ℕ → List ℕ
-putParts ns i p = put nodeWidth ns i partsColumn (p ∷ [])
+unfoldable pub closeRow : List ℕ → ℕ → ℕ → List ℕ
+closeRow ns i parts = put nodeWidth ns i partsColumn (parts ∷ [])
 
 unfoldable pub putSpan : List ℕ → ℕ → ℕ → ℕ → List ℕ
 putSpan ms i start len = put numberWidth ms i startColumn (start ∷ len ∷ [])
 
--- the row at i with other parts: nothing changes past the end
-unfoldable pub setParts : List Row → ℕ → ℕ → List Row
-setParts [] i v = []
-setParts (row k d p ∷ rs) zero v = row k d v ∷ rs
-setParts (r ∷ rs) (suc i) v = r ∷ setParts rs i v
-
--- rows as numbers
-abbrev pub rowNumbers : Row → List ℕ
-rowNumbers (row k d p) = k ∷ d ∷ p ∷ []
+-- the rows with the one at i closed: nothing changes past the end
+unfoldable pub closeIn : List Row → ℕ → ℕ → List Row
+closeIn [] i v = []
+closeIn (r ∷ rs) zero v = closed r v ∷ rs
+closeIn (r ∷ rs) (suc i) v = r ∷ closeIn rs i v
 
 abbrev pub spanNumbers : Span → List ℕ
 spanNumbers (span start len text) = start ∷ len ∷ []

@@ -1,7 +1,15 @@
 // Rows in lent slices: nodes and numbers, as document 01's "The store" lays them out.
 ghost use mathlib.Core.Path.{_≡_};
-ghost use Rattle.store.specs.Rows.{nodeRoom, numberRoom, putRow, putParts, putSpan, cleared, kindAt, dimensionAt, partsAt, startAt, lengthAt, cell};
-ghost use Prim.Native.Nat.{_<_};
+ghost use Rattle.store.specs.Rows.{nodeWidth, numberWidth, nodeRoom, numberRoom, placesOf, openRow, closeRow, putSpan, cleared, kindAt, dimensionAt, partsAt, rowAt, startAt, lengthAt, cell, asRow};
+ghost use Prim.Native.Nat.{_≤_, _<_};
+ghost use lib.ListN.{length};
+
+// What a node row says.
+pub struct NodeRow {
+    pub kind: u32,
+    pub dimension: u32,
+    pub parts: u32,
+}
 
 pub const NODE_WIDTH: usize = 3;
 
@@ -33,21 +41,46 @@ pub fn number_room(numbers: &[u32]) -> usize
     numbers.len() / NUMBER_WIDTH
 }
 
-// Puts a node row. Where there is no such row nothing changes, here as below.
-pub fn put_node(nodes: &mut [u32], row: usize, kind: u32, dimension: u32, parts: u32)
-    ensures { λ _. ⌜ now (nodes .exit) ≡ putRow (now (nodes .entry)) row kind dimension parts ⌝ }
+// How many places the first `rows` node rows take: all of them where there are fewer rows.
+pub fn node_places(nodes: &[u32], rows: usize) -> usize
+    ensures { λ r. ⌜ r ≡ placesOf nodeWidth (now (nodes .entry)) rows ⌝ }
+    ensures { λ r. ⌜ r ≤ length (now (nodes .entry)) ⌝ }
+{
+    if rows <= node_room(nodes) {
+        rows * NODE_WIDTH
+    } else {
+        nodes.len()
+    }
+}
+
+// The same of number rows.
+pub fn number_places(numbers: &[u32], rows: usize) -> usize
+    ensures { λ r. ⌜ r ≡ placesOf numberWidth (now (numbers .entry)) rows ⌝ }
+    ensures { λ r. ⌜ r ≤ length (now (numbers .entry)) ⌝ }
+{
+    if rows <= number_room(numbers) {
+        rows * NUMBER_WIDTH
+    } else {
+        numbers.len()
+    }
+}
+
+// Opens a node row: what follows from the parts is 0 until the row is closed. Where there is no such row nothing
+// changes, here as below.
+pub fn open_row(nodes: &mut [u32], row: usize, kind: u32, dimension: u32)
+    ensures { λ _. ⌜ now (nodes .exit) ≡ openRow (now (nodes .entry)) row kind dimension ⌝ }
 {
     if row < node_room(nodes) {
         let at = row * NODE_WIDTH;
         nodes[at + KIND] = kind;
         nodes[at + DIMENSION] = dimension;
-        nodes[at + PARTS] = parts;
+        nodes[at + PARTS] = 0;
     }
 }
 
-// Fills in the parts of a node row.
-pub fn put_parts(nodes: &mut [u32], row: usize, parts: u32)
-    ensures { λ _. ⌜ now (nodes .exit) ≡ putParts (now (nodes .entry)) row parts ⌝ }
+// Closes a node row: its parts are counted.
+pub fn close_row(nodes: &mut [u32], row: usize, parts: u32)
+    ensures { λ _. ⌜ now (nodes .exit) ≡ closeRow (now (nodes .entry)) row parts ⌝ }
 {
     if row < node_room(nodes) {
         nodes[row * NODE_WIDTH + PARTS] = parts;
@@ -104,6 +137,17 @@ pub fn parts_at(nodes: &[u32], row: usize) -> u32
     ensures { λ r. ⌜ r ≡ partsAt (now (nodes .entry)) row ⌝ }
 {
     cell_at(nodes, NODE_WIDTH, row, PARTS)
+}
+
+// All that a node row says.
+pub fn node_at(nodes: &[u32], row: usize) -> NodeRow
+    ensures { λ r. ⌜ asRow r ≡ rowAt (now (nodes .entry)) row ⌝ }
+{
+    NodeRow {
+        kind: kind_at(nodes, row),
+        dimension: dimension_at(nodes, row),
+        parts: parts_at(nodes, row),
+    }
 }
 
 pub fn start_at(numbers: &[u32], row: usize) -> u32

@@ -1,2 +1,4 @@
 pub mod Rules
-pub mod Walk
+pub mod Faults
+pub mod Outcome
+pub mod OneOutcome

@@ -7,15 +7,15 @@ use Prim.Native.Nat.{ℕ, suc, _+_, _-_, _*_, _≤_, _<_}
 use native.Mathlib.Omega.{arith}
 use native.Mathlib.Numerals.{add-one}
 use native.Mathlib.Nat.{suc-mul}
-use borrow.Author.Tests.{eq-eqb, ne-eqb, eqb-true, le-leb}
+use borrow.Author.Tests.{eq-eqb, ne-eqb, eqb-true}
 use lib.ListN.{length, getD, drop, drop-of-length-le}
 use lib.Seq.{drop-cons}
 use Rattle.kinds.specs.Kinds.{kindLineString, width}
 use Rattle.shape.specs.declared.Visit.{Visit}
-use Rattle.shape.specs.Nodes.{numbersOf, isLeaf}
 use Rattle.shape.specs.Numbers.{textAt}
+use Rattle.shape.specs.Walk.{CoordinatesIn}
 use Rattle.store.specs.Rows.{numberRoom}
-use Rattle.strict.specs.Rules.{sameBytes, sameTexts, isRing, HasNumbers}
+use Rattle.strict.specs.Rules.{sameBytes, sameTexts, isRing}
 
 -- ---- bytes
 pub bytes-differ : (l m : List ℕ) → (length l ≡ length m → ⊥) → false ≡ sameBytes l m
@@ -81,13 +81,8 @@ one-more n w h = let z : n ≡ suc (n - 1) = omega arith in ap (λ m. m * w) z �
 pub ring-kind : (v : Visit) → isRing v ≡ true → v .kind ≤ kindLineString
 ring-kind v e = let k = eqb-true (v .kind) kindLineString (and-eq-true-iff _ _ .0 e .0) in omega (arith, k)
 
--- what a walk tells of a node's numbers
-pub has-numbers : (numbers : List ℕ) (v : Visit) → (isLeaf v ≡ true → v .number + numbersOf v ≤ numberRoom numbers) → v .kind ≤ kindLineString → HasNumbers numbers v
-unfolding numbersOf
-has-numbers numbers v h k = rw (le-leb (v .kind) kindLineString k) at (h (rw (le-leb (v .kind) kindLineString k)))
-
 -- the last coordinate's numbers are among them
-pub last-fits : (v : Visit) (numbers : List ℕ) (w : ℕ) → w ≡ width (v .dimension) → HasNumbers numbers v → (v .parts ≡ 0 → ⊥) → v .number + ((v .parts - 1) * w + w) ≤ numberRoom numbers
+pub last-fits : (v : Visit) (numbers : List ℕ) (w : ℕ) → w ≡ width (v .dimension) → CoordinatesIn (numberRoom numbers) v → (v .parts ≡ 0 → ⊥) → v .number + ((v .parts - 1) * w + w) ≤ numberRoom numbers
 last-fits v numbers w e h z =
     let g : v .number + v .parts * w ≤ numberRoom numbers = rw e h in
     let o = one-more (v .parts) w (omega (arith, z)) in

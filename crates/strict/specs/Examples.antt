@@ -1,6 +1,6 @@
 -- Worked examples of this crate's definitions, by computation.
 use mathlib.Core.Path.{_≡_, refl}
-use mathlib.Core.List.{List, [], _∷_, _++_}
+use mathlib.Core.List.{List, [], _∷_, _++_, flatMap}
 use Prim.Native.Nat.{ℕ}
 use Rattle.kinds.specs.Kinds.{width}
 use Rattle.scan.specs.Text.{bytes}
@@ -9,9 +9,11 @@ use Rattle.words.specs.Words.{sameWord}
 use Rattle.lists.specs.Lists.{every}
 use Rattle.number.specs.Lexeme.{isNamed, isDigits, isExponent, isDecimal, isUnsigned, isLexeme}
 use Rattle.store.specs.Rows.{cell, firsts, rowsIn, spansIn}
-use Rattle.shape.specs.Nodes.{numbersOf, childKind, isAllowed, after, ends, isOpen, atLast, visitsBy, visits, treeOf}
+use Rattle.tree.specs.Tree.{rowsWith}
+use Rattle.tree.specs.TreeIn.{onFront, asA, times, findText, findRow, exactlyOne, atMostOne, findParts, findNode, whole}
+use Rattle.shape.specs.Visits.{walkEach, walkParts}
 use Rattle.shape.specs.Numbers.{textAt, areNumbers}
-use Rattle.shape.specs.Store.{areWhole, visitsOf}
+use Rattle.shape.specs.Store.{areWhole, treeOf, walkOf}
 use Rattle.strict.specs.declared.StrictAnswer.{StrictAnswer}
 use Rattle.strict.specs.Rules.{letterA, letterB, letterC, letterD, noLetter, sameBytes, sameTexts, closed, failsC, fault}
 use Rattle.strict.specs.Strict.{answer, firstFault, strictOf}
@@ -50,8 +52,12 @@ fine : StrictAnswer
 fine = answer 0 noLetter 0
 
 all : ℕ
-unfolding text n0 n1 n2 inf INF says ring three fine begins afterOne afterAll isNil sameWord isNamed isDigits isExponent isDecimal isUnsigned isLexeme every cell firsts rowsIn spansIn width numbersOf childKind isAllowed after ends isOpen atLast visitsBy visits treeOf textAt areNumbers areWhole visitsOf sameBytes sameTexts closed failsC fault firstFault strictOf
+unfolding text n0 n1 n2 inf INF says ring three fine begins afterOne afterAll isNil sameWord isNamed isDigits isExponent isDecimal isUnsigned isLexeme every cell firsts rowsIn spansIn width flatMap rowsWith onFront asA times findText findRow exactlyOne atMostOne findParts findNode whole walkEach walkParts textAt areNumbers areWhole treeOf walkOf sameBytes sameTexts closed failsC fault firstFault strictOf
 all = 0
+
+-- the letters are their ASCII bytes
+letters : letterA ∷ letterB ∷ letterC ∷ letterD ∷ [] ≡ bytes "ABCD"
+letters = refl
 
 -- `LINESTRING(0 1)` fails A, and so does a ring of one coordinate, at its own row
 few : (says (2 ∷ 0 ∷ 1 ∷ []) (n0 ++ n1) ≡ answer 0 letterA 0) × (says (ring 1) (n0 ++ n1) ≡ answer 0 letterA 1)

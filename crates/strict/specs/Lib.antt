@@ -1,3 +1,4 @@
 pub mod Rules
 pub mod Strict
+pub mod Outcome
 pub mod Examples

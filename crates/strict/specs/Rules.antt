@@ -1,10 +1,9 @@
 -- The rules of the strict check (document 01, "Strict check"), for a node of a well-formed store in its place.
 use mathlib.Core.Bool.{Bool, true, false, cond, not, _&&_}
 use mathlib.Core.List.{List, [], _∷_}
-use Prim.Native.Nat.{ℕ, zero, suc, _+_, _-_, _*_, _^_, _≤_, _<_}
+use Prim.Native.Nat.{ℕ, zero, suc, _+_, _-_, _*_, _^_, _<_}
 use lib.Dec.{eqb, ltb}
 use Rattle.kinds.specs.Kinds.{kindLineString, kindPolygon, kindGeometryCollection, width}
-use Rattle.store.specs.Rows.{numberRoom}
 use Rattle.shape.specs.declared.Visit.{Visit}
 use Rattle.shape.specs.Numbers.{textAt}
 
@@ -77,10 +76,6 @@ fault text numbers v =
     (cond (failsD v) letterD noLetter)))
 
 -- ---- what private functions ask
--- the node's numbers are among those that there are
-abbrev pub HasNumbers : List ℕ → Visit → Type 0
-HasNumbers numbers v = v .number + v .parts * width (v .dimension) ≤ numberRoom numbers
-
 -- n indexes from each of the two fit
 pub record Within (i j n : ℕ) : Type 0 where
   pub near : i + n < 2 ^ 64

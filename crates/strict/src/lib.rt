@@ -1,14 +1,18 @@
 // The strict check: rules A to D over the nodes of a well-formed store.
 ghost use mathlib.Core.Path.{_≡_};
-ghost use Prim.Native.Nat.{_≤_};
-ghost use Rattle.kinds.specs.Kinds.{kindLineString};
-ghost use Rattle.strict.specs.Rules.{sameBytes, sameTexts, isRing, isShort, failsA, failsB, failsC, failsD, closed, fault, HasNumbers, Within};
-ghost use Rattle.strict.specs.Strict.{strictOf};
+ghost use mathlib.Core.List.{[], _∷_};
+ghost use Rattle.refusals.specs.Refusals.{illFormedStore};
+ghost use Rattle.store.specs.Rows.{numberRoom};
+ghost use Rattle.shape.specs.declared.Met.the-variants.{Node};
+ghost use Rattle.shape.specs.Walk.{CoordinatesIn, NumbersIn, wholeWalk};
+ghost use Rattle.strict.specs.Rules.{noLetter, sameBytes, sameTexts, isRing, isShort, failsA, failsB, failsC, failsD, closed, fault, Within};
+ghost use Rattle.strict.specs.Strict.{answer, firstFault, orElse, ofWalk, strictOf};
 use kinds::KIND_GEOMETRYCOLLECTION;
 use kinds::KIND_LINESTRING;
 use kinds::KIND_POLYGON;
-use shape::Found;
-use shape::ILL_FORMED;
+use refusals::ILL_FORMED_STORE;
+use shape::CELLS;
+use shape::Met;
 use shape::Visit;
 
 // The fewest coordinates of a line string and of a ring that are not empty.
@@ -58,7 +62,7 @@ fn same_texts(text: &[u8], numbers: &[u32], first: usize, last: usize, width: us
 
 // Whether a ring's first and last coordinate are the same.
 fn is_closed(text: &[u8], numbers: &[u32], v: Visit) -> bool
-    requires { ⌜ HasNumbers (now numbers) v ⌝ }
+    requires { ⌜ CoordinatesIn (numberRoom (now numbers)) v ⌝ }
     ensures { λ r. ⌜ r ≡ closed (now (text .entry)) (now (numbers .entry)) v ⌝ }
 {
     if v.parts == 0 {
@@ -98,7 +102,7 @@ fn fails_b(v: Visit) -> bool
 
 // A ring is closed.
 fn fails_c(text: &[u8], numbers: &[u32], v: Visit) -> bool
-    requires { ⌜ (v .kind ≤ kindLineString → HasNumbers (now numbers) v) ⌝ }
+    requires { ⌜ NumbersIn (numberRoom (now numbers)) v ⌝ }
     ensures { λ r. ⌜ r ≡ failsC (now (text .entry)) (now (numbers .entry)) v ⌝ }
 {
     if is_ring(v) {
@@ -116,7 +120,7 @@ fn fails_d(v: Visit) -> bool
 
 // The lowest letter of the rules that a node fails, or 0.
 fn fault_of(text: &[u8], numbers: &[u32], v: Visit) -> u8
-    requires { ⌜ (v .kind ≤ kindLineString → HasNumbers (now numbers) v) ⌝ }
+    requires { ⌜ NumbersIn (numberRoom (now numbers)) v ⌝ }
     ensures { λ r. ⌜ r ≡ fault (now (text .entry)) (now (numbers .entry)) v ⌝ }
 {
     if fails_a(v) {
@@ -134,48 +138,79 @@ fn fault_of(text: &[u8], numbers: &[u32], v: Visit) -> u8
     0
 }
 
+// The first fault of the nodes so far, or else that of one more node.
+fn or_fault(text: &[u8], numbers: &[u32], found: StrictAnswer, v: Visit) -> StrictAnswer
+    requires { ⌜ NumbersIn (numberRoom (now numbers)) v ⌝ }
+    ensures { λ r. ⌜ r ≡ orElse found (firstFault (now (text .entry)) (now (numbers .entry)) (Node v ∷ [])) ⌝ }
+{
+    if found.letter != 0 {
+        return found;
+    }
+    let letter = fault_of(text, numbers, v);
+    if letter != 0 {
+        return StrictAnswer {
+            number: 0,
+            letter,
+            row: v.row,
+        };
+    }
+    StrictAnswer {
+        number: 0,
+        letter: 0,
+        row: 0,
+    }
+}
+
+// The refusal of a store that is ill formed.
+fn ill_formed() -> StrictAnswer
+    ensures { λ r. ⌜ r ≡ answer illFormedStore noLetter 0 ⌝ }
+{
+    StrictAnswer {
+        number: ILL_FORMED_STORE,
+        letter: 0,
+        row: 0,
+    }
+}
+
+// The first rule that fails on the way through the rows, if they are a tree: the walk goes on after it, as 22 comes before all rules.
+fn first_fault(text: &[u8], nodes: &[u32], numbers: &[u32]) -> StrictAnswer
+    ensures { λ r. ⌜ r ≡ ofWalk (now (text .entry)) (now (numbers .entry)) (wholeWalk (now (nodes .entry)) (numberRoom (now (numbers .entry)))) ⌝ }
+{
+    let count = store::number_room(numbers);
+    let mut cells = [0; CELLS];
+    let mut w = shape::start(&mut cells);
+    let mut found = StrictAnswer {
+        number: 0,
+        letter: 0,
+        row: 0,
+    };
+    loop {
+        let s = shape::step(nodes, count, &mut cells, w);
+        let met = s.met;
+        match met {
+            Met::Node(v) => {
+                found = or_fault(text, numbers, found, v);
+                w = s.next;
+            }
+            Met::End(_, _) => {
+                w = s.next;
+            }
+            Met::Done => {
+                return found;
+            }
+            Met::Ill => {
+                return ill_formed();
+            }
+        }
+    }
+}
+
 // The first rule that fails, in node order.
 pub fn strict(text: &[u8], nodes: &[u32], numbers: &[u32]) -> StrictAnswer
     ensures { λ r. ⌜ r ≡ strictOf (now (text .entry)) (now (nodes .entry)) (now (numbers .entry)) ⌝ }
 {
-    if !shape::check(text, nodes, numbers) {
-        return StrictAnswer {
-            number: ILL_FORMED,
-            letter: 0,
-            row: 0,
-        };
+    if shape::are_rows(text, nodes, numbers) {
+        return first_fault(text, nodes, numbers);
     }
-    let count = store::number_room(numbers);
-    let mut c = shape::start();
-    loop {
-        let s = shape::next(nodes, count, c);
-        let found = s.found;
-        match found {
-            Found::Node(v) => {
-                let letter = fault_of(text, numbers, v);
-                if letter != 0 {
-                    return StrictAnswer {
-                        number: 0,
-                        letter,
-                        row: v.row,
-                    };
-                }
-                c = s.next;
-            }
-            Found::Done => {
-                return StrictAnswer {
-                    number: 0,
-                    letter: 0,
-                    row: 0,
-                };
-            }
-            Found::Ill => {
-                return StrictAnswer {
-                    number: ILL_FORMED,
-                    letter: 0,
-                    row: 0,
-                };
-            }
-        }
-    }
+    ill_formed()
 }

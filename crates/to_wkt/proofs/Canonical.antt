@@ -1,43 +1,56 @@
 -- Laws of the canonical text, a step at a time.
 -- Assumes nothing.
-use mathlib.Core.Path.{_≡_, refl, ap, _∙_}
-use mathlib.Core.Bool.{Bool, true, false, cond}
+use mathlib.Core.Path.{_≡_, refl, ap, sym, _∙_}
+use mathlib.Core.Bool.{Bool, true, false, cond, _||_}
 use mathlib.Core.List.{List, [], _∷_, _++_}
-use Prim.Native.Nat.{ℕ, suc, _+_, _-_, _*_, _≤_, _<_}
+use Prim.Native.Nat.{ℕ, zero, suc, _+_, _-_, _*_, _≤_, _<_}
 use native.Mathlib.Omega.{arith}
 use native.Mathlib.Nat.{suc-mul, add-comm}
 use lib.Dec.{eqb}
-use borrow.Author.Tests.{le-leb, ne-eqb}
+use borrow.Author.Tests.{lt-leb, ne-eqb}
 use lib.ListN.{length, getD}
-use Rattle.scan.specs.Bytes.{space, comma, parenClose, plus}
+use Rattle.scan.specs.Bytes.{space, comma, plus, isPlus}
 use Rattle.scan.specs.Front.{begins}
 use Rattle.kinds.specs.Kinds.{kindLineString, width}
+use Rattle.names.specs.Letters.{isLetter}
 use Rattle.names.specs.Names.{names, endings}
 use Rattle.store.specs.Rows.{numberRoom}
 use Rattle.shape.specs.declared.Visit.{Visit}
 use Rattle.kinds.proofs.Widths.{width-some}
-use Rattle.shape.specs.Nodes.{numbersOf, isLeaf}
 use Rattle.shape.specs.Numbers.{textAt}
-use Rattle.to_wkt.specs.Canonical.{startsPlused, needsPlus, spell, putNumber, putSpaced, putCoordinate, putListed, putClosings, stringOf}
-use Rattle.to_wkt.specs.Write.{HasNumbers}
+use Rattle.canonical_text.specs.Canonical.{needsPlus, spell, stringOf}
+use Rattle.shape.specs.Walk.{NumbersIn}
+use Rattle.to_wkt.specs.Canonical.{putNumber, putSpaced, putCoordinate, putListed, putCoordinates}
 
 -- ---- numbers
-pub plus-none : (w : List ℕ) → length w ≡ 0 → false ≡ needsPlus w
-unfolding needsPlus begins
+pub plus-none : (w : List ℕ) → length w ≡ 0 → false ≡ begins needsPlus w
+unfolding begins
 plus-none [] e = refl
 plus-none (b ∷ w) e = absurd (omega arith)
 
-pub plus-some : (w : List ℕ) → (length w ≡ 0 → ⊥) → startsPlused (getD w 0 0) ≡ needsPlus w
-unfolding needsPlus begins
+pub plus-some : (w : List ℕ) → (length w ≡ 0 → ⊥) → needsPlus (getD w 0 0) ≡ begins needsPlus w
+unfolding begins
 plus-some [] e = absurd (e refl)
 plus-some (b ∷ w) e = refl
 
-module _ (text numbers : List ℕ) (i : ℕ) {w : List ℕ} (is : w ≡ textAt text numbers i) {b : Bool} (t : b ≡ needsPlus w) where
-  pub number-plus : b ≡ true → (rest : List ℕ) → putNumber text numbers i rest ≡ plus ∷ (w ++ rest)
+-- no byte before the letters is one, and no letter is a plus
+module _ (w : List ℕ) (some : length w ≡ 0 → ⊥) where
+  pub plus-low : getD w 0 0 < 65 → isPlus (getD w 0 0) ≡ begins needsPlus w
+  plus-low h = sym (or-false (isPlus (getD w 0 0))) ∙ sym (ap (λ b. isPlus (getD w 0 0) || b) (rw (lt-leb 97 (getD w 0 0) (omega arith), lt-leb 65 (getD w 0 0) h))) ∙ plus-some w some
+    where
+      or-false : (b : Bool) → (b || false) ≡ b
+      or-false true = refl
+      or-false false = refl
+
+  pub plus-high : 65 ≤ getD w 0 0 → isLetter (getD w 0 0) ≡ begins needsPlus w
+  plus-high h = rw (ne-eqb (getD w 0 0) 43 (λ e. omega arith)) at (plus-some w some)
+
+module _ (text numbers : List ℕ) (i : ℕ) (lead : ℕ) {w : List ℕ} (is : w ≡ textAt text numbers i) {b : Bool} (t : b ≡ begins needsPlus w) where
+  pub number-plus : b ≡ true → (rest : List ℕ) → lead ∷ putNumber text numbers i rest ≡ lead ∷ plus ∷ (w ++ rest)
   unfolding putNumber spell
   number-plus e rest = rw (← is, ← t, e)
 
-  pub number-bare : b ≡ false → (rest : List ℕ) → putNumber text numbers i rest ≡ w ++ rest
+  pub number-bare : b ≡ false → (rest : List ℕ) → lead ∷ putNumber text numbers i rest ≡ lead ∷ (w ++ rest)
   unfolding putNumber spell
   number-bare e rest = rw (← is, ← t, e)
 
@@ -48,43 +61,59 @@ less n i h = omega arith
 none-left : (n i : ℕ) → n ≤ i → n - i ≡ 0
 none-left n i h = omega arith
 
-module _ (text numbers : List ℕ) (first w i : ℕ) where
-  pub spaced-on : i < w → (rest : List ℕ) → putSpaced text numbers (first + i) (w - i) rest ≡ space ∷ putNumber text numbers (first + i) (putSpaced text numbers (first + (i + 1)) (w - (i + 1)) rest)
-  unfolding putSpaced
-  spaced-on h rest = let z : first + i + 1 ≡ first + (i + 1) = omega arith in rw (less w i h, z)
+module _ (text numbers : List ℕ) where
+  -- n numbers from i on, and n coordinates, the first after the byte `lead`
+  unfoldable pub ledNumbers : ℕ → ℕ → ℕ → List ℕ → List ℕ
+  ledNumbers lead i zero rest = rest
+  ledNumbers lead i (suc n) rest = lead ∷ putNumber text numbers i (putSpaced text numbers (i + 1) n rest)
 
-  pub spaced-end : w ≤ i → (rest : List ℕ) → putSpaced text numbers (first + i) (w - i) rest ≡ rest
-  unfolding putSpaced
-  spaced-end h rest = rw (none-left w i h)
+  unfoldable pub ledCoordinates : ℕ → ℕ → ℕ → ℕ → List ℕ → List ℕ
+  ledCoordinates lead at w zero rest = rest
+  ledCoordinates lead at w (suc n) rest = lead ∷ putCoordinate text numbers at w (putListed text numbers (at + w) w n rest)
 
-module _ (text numbers : List ℕ) (at w n i : ℕ) where
-  pub listed-on : i < n → (rest : List ℕ) → putListed text numbers at w (n - i) rest ≡ comma ∷ putCoordinate text numbers at w (putListed text numbers (at + w) w (n - (i + 1)) rest)
-  unfolding putListed
-  listed-on h rest = rw (less n i h)
+  led-spaced : (i n : ℕ) (rest : List ℕ) → putSpaced text numbers i n rest ≡ ledNumbers space i n rest
+  unfolding putSpaced ledNumbers
+  led-spaced i zero rest = refl
+  led-spaced i (suc n) rest = refl
 
-  pub listed-end : n ≤ i → (rest : List ℕ) → putListed text numbers at w (n - i) rest ≡ rest
-  unfolding putListed
-  listed-end h rest = rw (none-left n i h)
+  led-listed : (at w n : ℕ) (rest : List ℕ) → putListed text numbers at w n rest ≡ ledCoordinates comma at w n rest
+  unfolding putListed ledCoordinates
+  led-listed at w zero rest = refl
+  led-listed at w (suc n) rest = refl
 
-module _ (n i : ℕ) where
-  pub closings-on : i < n → (rest : List ℕ) → putClosings (n - i) rest ≡ parenClose ∷ putClosings (n - (i + 1)) rest
-  unfolding putClosings
-  closings-on h rest = rw (less n i h)
+  module _ (lead first w i : ℕ) where
+    pub numbers-on : i < w → (rest : List ℕ) → ledNumbers lead (first + i) (w - i) rest ≡ lead ∷ putNumber text numbers (first + i) (ledNumbers space (first + (i + 1)) (w - (i + 1)) rest)
+    unfolding ledNumbers
+    numbers-on h rest = let z : first + i + 1 ≡ first + (i + 1) = omega arith in rw (less w i h, z) (ap (λ l. lead ∷ putNumber text numbers (first + i) l) (led-spaced (first + (i + 1)) (w - (i + 1)) rest))
 
-  pub closings-end : n ≤ i → (rest : List ℕ) → putClosings (n - i) rest ≡ rest
-  unfolding putClosings
-  closings-end h rest = rw (none-left n i h)
+    pub numbers-end : w ≤ i → (rest : List ℕ) → ledNumbers lead (first + i) (w - i) rest ≡ rest
+    unfolding ledNumbers
+    numbers-end h rest = rw (none-left w i h)
 
-pub closings-start : (n : ℕ) (rest : List ℕ) → putClosings n rest ≡ putClosings (n - 0) rest
-closings-start n rest = let z : n - 0 ≡ n = omega arith in rw z
+  pub numbers-all : (lead first w : ℕ) → 1 ≤ w → (rest : List ℕ) → lead ∷ putCoordinate text numbers first w rest ≡ ledNumbers lead (first + 0) (w - 0) rest
+  unfolding ledNumbers putCoordinate
+  numbers-all lead first w h rest = let z : first + 0 ≡ first = omega arith in let y : w - 0 ≡ suc (w - 1) = omega arith in rw (z, y)
+
+  module _ (lead at w n i : ℕ) where
+    pub coordinates-on : i < n → (rest : List ℕ) → ledCoordinates lead at w (n - i) rest ≡ lead ∷ putCoordinate text numbers at w (ledCoordinates comma (at + w) w (n - (i + 1)) rest)
+    unfolding ledCoordinates
+    coordinates-on h rest = rw (less n i h) (ap (λ l. lead ∷ putCoordinate text numbers at w l) (led-listed (at + w) w (n - (i + 1)) rest))
+
+    pub coordinates-end : n ≤ i → (rest : List ℕ) → ledCoordinates lead at w (n - i) rest ≡ rest
+    unfolding ledCoordinates
+    coordinates-end h rest = rw (none-left n i h)
+
+  pub coordinates-all : (lead first w n : ℕ) → 1 ≤ n → (rest : List ℕ) → lead ∷ putCoordinates text numbers first w n rest ≡ ledCoordinates lead first w (n - 0) rest
+  unfolding ledCoordinates putCoordinates
+  coordinates-all lead first w n h rest = let y : n - 0 ≡ suc (n - 1) = omega arith in rw y
 
 -- ---- names of no kind and no dimension
 module _ (k : ℕ) where
-  pub no-ending : (k ≡ 0 → ⊥) → (k ≡ 1 → ⊥) → (k ≡ 2 → ⊥) → (k ≡ 3 → ⊥) → stringOf k endings ≡ []
+  pub no-ending : (k ≡ 0 → ⊥) → (k ≡ 1 → ⊥) → (k ≡ 2 → ⊥) → (k ≡ 3 → ⊥) → stringOf endings k ≡ []
   unfolding stringOf
   no-ending a b d e = rw (ne-eqb k 0 a, ne-eqb k 1 b, ne-eqb k 2 d, ne-eqb k 3 e)
 
-  pub no-name : (k ≡ 1 → ⊥) → (k ≡ 2 → ⊥) → (k ≡ 3 → ⊥) → (k ≡ 4 → ⊥) → (k ≡ 5 → ⊥) → (k ≡ 6 → ⊥) → (k ≡ 7 → ⊥) → stringOf k names ≡ []
+  pub no-name : (k ≡ 1 → ⊥) → (k ≡ 2 → ⊥) → (k ≡ 3 → ⊥) → (k ≡ 4 → ⊥) → (k ≡ 5 → ⊥) → (k ≡ 6 → ⊥) → (k ≡ 7 → ⊥) → stringOf names k ≡ []
   unfolding stringOf
   no-name a b d e f g h = rw (ne-eqb k 1 a, ne-eqb k 2 b, ne-eqb k 3 d, ne-eqb k 4 e, ne-eqb k 5 f, ne-eqb k 6 g, ne-eqb k 7 h)
 
@@ -93,16 +122,12 @@ module _ (k : ℕ) where
 pub fewer-numbers : (w n i : ℕ) → i < n → (n - i) * w ≡ w + (n - (i + 1)) * w
 fewer-numbers w n i h = rw (less n i h) (suc-mul (n - (i + 1)) w ∙ add-comm _ _)
 
-pub all-numbers : (w n : ℕ) → 1 ≤ n → n * w ≡ w + (n - 1) * w
-all-numbers w n h = let z : n ≡ suc (n - 1) = omega arith in ap (λ m. m * w) z ∙ suc-mul (n - 1) w ∙ add-comm _ _
+-- at the start, all
+pub all-from : (first w n top : ℕ) → first + n * w < top → first + (n - 0) * w < top
+all-from first w n top h = let z : n - 0 ≡ n = omega arith in rw z h
 
 pub width-wide : (d w : ℕ) → w ≡ width d → 1 ≤ w
 width-wide d w e = omega (arith, e, width-some d)
 
--- what a walk tells of a node's numbers
-pub has-numbers : (numbers : List ℕ) (v : Visit) → (isLeaf v ≡ true → v .number + numbersOf v ≤ numberRoom numbers) → HasNumbers numbers v
-unfolding numbersOf
-has-numbers numbers v h k = rw (le-leb (v .kind) kindLineString k) at (h (rw (le-leb (v .kind) kindLineString k)))
-
-pub numbers-fit : (numbers : List ℕ) (v : Visit) (w : ℕ) → w ≡ width (v .dimension) → HasNumbers numbers v → v .kind ≤ kindLineString → v .number + v .parts * w ≤ numberRoom numbers
+pub numbers-fit : (numbers : List ℕ) (v : Visit) (w : ℕ) → w ≡ width (v .dimension) → NumbersIn (numberRoom numbers) v → v .kind ≤ kindLineString → v .number + v .parts * w ≤ numberRoom numbers
 numbers-fit numbers v w e h k = rw e (h k)

@@ -1,82 +1,112 @@
--- The nodes of a store, written one after the other, and the answers.
+-- All that a walk meets, put one after the other, and the answers.
 -- Assumes nothing.
-use mathlib.Core.Path.{_≡_, refl, ap, sym, _∙_}
-use mathlib.Core.Bool.{true, false}
-use mathlib.Core.Option.{some}
-use mathlib.Core.List.{List, [], _++_, append-nil}
+use mathlib.Core.Path.{_≡_, refl, ap, sym, subst, _∙_}
+use mathlib.Core.Bool.{Bool, true, false, false≢true}
+use mathlib.Core.Option.{Option, none, some}
+use mathlib.Core.List.{List, [], _∷_, _++_, append-nil}
 use Prim.Native.Nat.{ℕ, _-_, _<_}
 use native.Mathlib.Omega.{arith}
 use borrow.Author.Tests.{le-leb, lt-leb}
 use lib.ListN.{length, take}
 use lib.Seq.{length-take-le}
+use Rattle.refusals.specs.Refusals.{illFormedStore, noRoom}
+use Rattle.tree.specs.Tree.{Tree}
+use Rattle.limits.specs.Limits.{depthLimit}
 use Rattle.store.specs.Rows.{numberRoom, cleared}
 use Rattle.store.proofs.Zeros.{cleared-all, cleared-padded}
-use Rattle.shape.specs.declared.Cursor.{Cursor}
-use Rattle.shape.specs.declared.Visit.{Visit}
-use Rattle.shape.specs.declared.Step.{Step}
-use Rattle.shape.specs.declared.Found.the-variants.{Node, Done}
-use Rattle.shape.specs.Nodes.{theVisits}
-use Rattle.shape.specs.Store.{illFormed, visitsOf, wellFormed}
-use Rattle.shape.specs.Walk.{begin, step}
-use Rattle.shape.proofs.Turns.{ill-visits, Walking, left, begins, turn-done, turn-on}
+use Rattle.shape.specs.declared.Met.{Met}
+use Rattle.shape.specs.Store.{treeOf, mapO, walkRoot, walkOf}
+use Rattle.shape.specs.Walk.{areRows, wholeWalk}
+use Rattle.shape.proofs.Checks.{the-walk}
+use Rattle.canonical_text.specs.Canonical.{canonicalText}
 use Rattle.pen.specs.declared.Pen.{Pen}
-use Rattle.pen.specs.Pen.{pen, Left, Emits}
+use Rattle.pen.specs.Pen.{pen, Held, Left, Emits}
+use Rattle.to_wkt.specs.declared.PutAnswer.{PutAnswer}
 use Rattle.to_wkt.specs.declared.WriteAnswer.{WriteAnswer}
-use Rattle.to_wkt.specs.Canonical.{putNode, nodesText, textOf, canonical}
-use Rattle.to_wkt.specs.Write.{noRoom, accepted, refused, Written}
+use Rattle.to_wkt.specs.Canonical.{storeText, putMet, putAll}
+use Rattle.to_wkt.specs.Write.{accepted, refused, Written}
+use Rattle.to_wkt.specs.Put.{PutRows}
+use Rattle.to_wkt.proofs.Trees.{put-both, put-is-text}
 
--- ---- the loop: what is ahead is still to be put
-pub record Writing (text nodes numbers : List ℕ) (count : ℕ) (c : Cursor) (p : Pen) (out₀ out : List ℕ) : Type 0 where
-  pub walking : Walking nodes count c
-  pub owed : Left (textOf text nodes numbers) (nodesText text numbers (left nodes count c)) p out
-  pub same : length out ≡ length out₀
+-- ---- the loop: of any text that begins with what was met, the rest is owed
+abbrev pub Owed : List ℕ → List ℕ → Pen → List ℕ → List Met → Type 0
+Owed text numbers p out ms = (rest : List ℕ) → Left (putAll text numbers ms rest) rest p out
 
-pub writing-start : (text nodes numbers : List ℕ) (count : ℕ) (c : Cursor) (out : List ℕ) → count ≡ numberRoom numbers → wellFormed text nodes numbers ≡ true → c ≡ begin → Writing text nodes numbers count c (pen 0 false) out out
-unfolding textOf
-writing-start text nodes numbers count c out n w e =
-    let b = begins text nodes numbers c w e in
-    let all : left nodes (numberRoom numbers) c ≡ theVisits (visitsOf text nodes numbers) = ap theVisits (b .all) in
-    rw n (record { walking = b .walking; owed = record { within = omega arith; held = ap (nodesText text numbers) all }; same = refl })
+pub owed-none : (text numbers out : List ℕ) → Owed text numbers (pen 0 false) out []
+unfolding putAll
+owed-none text numbers out rest = record { within = omega arith; held = refl }
 
-module _ {text nodes numbers : List ℕ} {count : ℕ} {c : Cursor} {p : Pen} {out₀ out : List ℕ} {r : Step} (h : Writing text nodes numbers count c p out₀ out) (s : r ≡ step nodes count c) where
-  pub writing-done : r .found ≡ Done → Left (textOf text nodes numbers) [] p out
-  unfolding nodesText
-  writing-done e = rw (turn-done (h .walking) s e) at (h .owed)
+pub owed-on : (text numbers : List ℕ) (m : Met) {p q : Pen} {out out′ : List ℕ} → Emits (putMet text numbers m) p out q out′ → (ms : List Met) → Owed text numbers p out ms → Owed text numbers q out′ (ms ++ (m ∷ []))
+unfolding putAll
+owed-on text numbers m a ms h rest = rw (put-both text numbers ms (m ∷ []) rest) (a .to _ rest (h (putMet text numbers m rest)))
 
-  pub writing-on : (v : Visit) → r .found ≡ Node v → {q : Pen} {out' : List ℕ} → Emits (putNode text numbers v) p out q out' → Writing text nodes numbers count (r .next) q out₀ out'
-  unfolding nodesText
-  writing-on v e m =
-      let t = turn-on (h .walking) s v e in
-      record { walking = t .walking; owed = m .to _ _ (rw (t .first) at (h .owed)); same = m .same ∙ h .same }
+module _ (text numbers : List ℕ) {o : Option (List Met)} (p : Pen) (out : List ℕ) where
+  pub put-done : (ms : List Met) → o ≡ some ms → Owed text numbers p out ms → PutRows text numbers o (record { ill = false; pen = p }) out
+  put-done ms e h = rw e (refl, h [])
+
+  pub put-ill : o ≡ none → PutRows text numbers o (record { ill = true; pen = p }) out
+  put-ill e = rw e refl
+
+-- a full pen owes nothing more
+pub emits-full : {X : List ℕ → List ℕ} {p : Pen} (out : List ℕ) → p .full ≡ true → Emits X p out p out
+emits-full out e = record { same = refl; to = λ goal rest l. record { within = l .within; held = rw e (rw e at (l .held)) } }
 
 -- ---- the answers
-pub said-ill : (text nodes numbers out out' : List ℕ) (r : WriteAnswer) → wellFormed text nodes numbers ≡ false → r ≡ refused illFormed → out' ≡ cleared out 0 → Written text nodes numbers (length out) r out'
-unfolding canonical
-said-ill text nodes numbers out out' r w a e =
-    let v = ill-visits text nodes numbers w in
-    let z : length out - 0 ≡ length out = omega arith in
-    record { answer = rw v a; bytes = rw v (e ∙ cleared-all out ∙ rw z) }
+-- the text that stands in the room, or has no room
+pub record Stands (text nodes numbers : List ℕ) (p : Pen) (out : List ℕ) : Type 0 where
+  pub bytes : List ℕ
+  pub is : storeText text nodes numbers ≡ some bytes
+  pub left : Left bytes [] p out
 
-module _ (text nodes numbers : List ℕ) (w : wellFormed text nodes numbers ≡ true) where
-  is-canonical : canonical text nodes numbers ≡ some (textOf text nodes numbers)
-  unfolding canonical textOf
-  is-canonical = let b = begins text nodes numbers begin w refl in rw (← b .all)
+module _ (text nodes numbers : List ℕ) where
+  no-text : walkOf text nodes numbers ≡ none → storeText text nodes numbers ≡ none
+  unfolding walkOf storeText
+  no-text e = go (treeOf text nodes numbers) e
+    where
+      go : (o : Option (Tree depthLimit)) → mapO walkRoot o ≡ none → mapO canonicalText o ≡ none
+      go none e = refl
+      go (some t) e = let z : _≡_ {A = ℕ} 0 1 = cc in absurd (omega arith)
 
-  module _ (room : ℕ) (p : Pen) (out out' : List ℕ) (l : Left (textOf text nodes numbers) [] p out) (same : length out ≡ room) where
-    pub said-full : (r : WriteAnswer) → p .full ≡ true → r ≡ refused noRoom → out' ≡ cleared out 0 → Written text nodes numbers room r out'
-    said-full r f a e =
-        let h : length out < length (textOf text nodes numbers) = rw f at (l .held) in
-        let q = lt-leb (length (textOf text nodes numbers)) room (omega arith) in
-        let z : length out - 0 ≡ room = omega arith in
-        record { answer = rw (is-canonical, q) a; bytes = rw (is-canonical, q) (e ∙ cleared-all out ∙ rw z) }
+  pub said-ill : (out out′ : List ℕ) {room : ℕ} {r : WriteAnswer} → length out ≡ room → walkOf text nodes numbers ≡ none → r ≡ refused illFormedStore → out′ ≡ cleared out 0 → Written text nodes numbers room r out′
+  said-ill out out′ {room} same w a e =
+      let v = no-text w in
+      let z : length out - 0 ≡ room = omega arith in
+      record { answer = rw v a; bytes = rw v (e ∙ cleared-all out ∙ rw z) }
 
-    pub said-all : p .full ≡ false → out' ≡ cleared out (p .at) → Written text nodes numbers room (accepted (p .at)) out'
-    said-all f e =
-        let h : take (p .at) out ++ [] ≡ textOf text nodes numbers = rw f at (l .held) in
-        let g : textOf text nodes numbers ≡ take (p .at) out = sym h ∙ append-nil (take (p .at) out) in
-        let n : length (textOf text nodes numbers) ≡ p .at = ap length g ∙ length-take-le (p .at) out (l .within) in
-        let q = le-leb (length (textOf text nodes numbers)) room (omega (arith, l .within)) in
-        record { answer = rw (is-canonical, q, n); bytes = rw (is-canonical, q) (e ∙ cleared-padded out (textOf text nodes numbers) (p .at) g (l .within) ∙ rw same) }
+  -- by what the loop left
+  module _ (rows : areRows text nodes numbers ≡ true) (q : PutAnswer) (out : List ℕ) (h : PutRows text numbers (wholeWalk nodes (numberRoom numbers)) q out) where
+    by-walk : PutRows text numbers (walkOf text nodes numbers) q out
+    by-walk = rw (the-walk text nodes numbers refl rows) h
+
+    pub treeless : q .ill ≡ true → walkOf text nodes numbers ≡ none
+    treeless e = go (walkOf text nodes numbers) by-walk
+      where
+        go : (o : Option (List Met)) → PutRows text numbers o q out → o ≡ none
+        go none h = refl
+        go (some ms) h = absurd (false≢true (sym (h .0) ∙ e))
+
+    pub stands : q .ill ≡ false → Stands text nodes numbers (q .pen) out
+    stands good = go (walkOf text nodes numbers) refl by-walk
+      where
+        go : (o : Option (List Met)) → walkOf text nodes numbers ≡ o → PutRows text numbers o q out → Stands text nodes numbers (q .pen) out
+        go none e h = absurd (false≢true (sym good ∙ h))
+        go (some ms) e h = record { bytes = putAll text numbers ms []; is = put-is-text text numbers nodes ms e; left = h .1 }
+
+module _ {text nodes numbers : List ℕ} {p : Pen} {out : List ℕ} (s : Stands text nodes numbers p out) (out′ : List ℕ) {room : ℕ} (same : length out ≡ room) where
+  pub said-full : {r : WriteAnswer} → p .full ≡ true → r ≡ refused noRoom → out′ ≡ cleared out 0 → Written text nodes numbers room r out′
+  said-full f a e =
+      let l : length out < length (s .bytes) = subst (λ (b : Bool). Held b (s .bytes) [] (p .at) out) f (s .left .held) in
+      let t = lt-leb (length (s .bytes)) room (omega arith) in
+      let z : length out - 0 ≡ room = omega arith in
+      record { answer = rw (s .is, t) a; bytes = rw (s .is, t) (e ∙ cleared-all out ∙ rw z) }
+
+  pub said-all : p .full ≡ false → out′ ≡ cleared out (p .at) → Written text nodes numbers room (accepted (p .at)) out′
+  said-all f e =
+      let l : take (p .at) out ++ [] ≡ s .bytes = subst (λ (b : Bool). Held b (s .bytes) [] (p .at) out) f (s .left .held) in
+      let g : s .bytes ≡ take (p .at) out = sym l ∙ append-nil (take (p .at) out) in
+      let n : length (s .bytes) ≡ p .at = ap length g ∙ length-take-le (p .at) out (s .left .within) in
+      let t = le-leb (length (s .bytes)) room (omega (arith, s .left .within)) in
+      record { answer = rw (s .is, t, n); bytes = rw (s .is, t) (e ∙ cleared-padded out (s .bytes) (p .at) g (s .left .within) ∙ rw same) }
 
 -- the contract leaves no choice
 pub written-once : {text nodes numbers : List ℕ} {room : ℕ} {r r' : WriteAnswer} {out out' : List ℕ} → Written text nodes numbers room r out → Written text nodes numbers room r' out' → (r ≡ r') × (out ≡ out')

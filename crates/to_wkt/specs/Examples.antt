@@ -1,7 +1,7 @@
 -- Worked examples of this crate's definitions, by computation.
 use mathlib.Core.Path.{_≡_, refl}
 use mathlib.Core.Option.{Option, none, some}
-use mathlib.Core.List.{List, [], _∷_, _++_}
+use mathlib.Core.List.{List, [], _∷_, _++_, flatMap}
 use Prim.Native.Nat.{ℕ}
 use Rattle.kinds.specs.Kinds.{width}
 use Rattle.scan.specs.Text.{bytes}
@@ -10,10 +10,14 @@ use Rattle.words.specs.Words.{sameWord}
 use Rattle.lists.specs.Lists.{every}
 use Rattle.number.specs.Lexeme.{isNamed, isDigits, isExponent, isDecimal, isUnsigned, isLexeme}
 use Rattle.store.specs.Rows.{cell, firsts, rowsIn, spansIn}
-use Rattle.shape.specs.Nodes.{numbersOf, childKind, isAllowed, after, ends, isOpen, atLast, visitsBy, visits, treeOf}
+use Rattle.tree.specs.Tree.{rowsWith}
+use Rattle.tree.specs.TreeIn.{onFront, asA, times, findText, findRow, exactlyOne, atMostOne, findParts, findNode, whole}
+use Rattle.canonical_text.specs.Canonical.{spell, each, separated, putParts, putNamed, putDimension, stringOf, putWith}
+use Rattle.shape.specs.Nodes.{isAllowed, childKind}
 use Rattle.shape.specs.Numbers.{textAt, areNumbers}
-use Rattle.shape.specs.Store.{areWhole, visitsOf}
-use Rattle.to_wkt.specs.Canonical.{needsPlus, spell, putNumber, putSpaced, putCoordinate, putListed, putCoordinates, stringOf, putName, putDimension, putHead, putBody, putClosings, putTail, putNode, nodesText, canonical}
+use Rattle.shape.specs.Store.{mapO, areWhole, treeOf, walkOf}
+use Rattle.shape.specs.Visits.{walkEach, walkParts}
+use Rattle.to_wkt.specs.Canonical.{storeText, putNumber, putSpaced, putCoordinate, putListed, putCoordinates, putName, putComma, putHead, putBody, putNode, putMet, putAll}
 use Rattle.to_wkt.specs.Write.{accepted, refused, answerOf, roomAfter}
 
 -- `POINT(++4 +-4)` as it is read: its spans are 7,2 and 11,2
@@ -33,20 +37,24 @@ digits = bytes "12"
 n12 : List ℕ
 n12 = 0 ∷ 1 ∷ 1 ∷ 1 ∷ []
 
+-- `inf` and `2` of `inf2`
+n32 : List ℕ
+n32 = 0 ∷ 3 ∷ 3 ∷ 1 ∷ []
+
 of : List ℕ → List ℕ → Option (List ℕ)
-of nodes numbers = canonical digits nodes numbers
+of nodes numbers = storeText digits nodes numbers
 
 all : ℕ
-unfolding read spans point digits n12 of begins afterOne afterAll isNil sameWord isNamed isDigits isExponent isDecimal isUnsigned isLexeme every cell firsts rowsIn spansIn width numbersOf childKind isAllowed after ends isOpen atLast visitsBy visits treeOf textAt areNumbers areWhole visitsOf needsPlus spell putNumber putSpaced putCoordinate putListed putCoordinates stringOf putName putDimension putHead putBody putClosings putTail putNode nodesText canonical
+unfolding read spans point digits n12 of begins afterOne afterAll isNil sameWord isNamed isDigits isExponent isDecimal isUnsigned isLexeme every cell firsts rowsIn spansIn width onFront asA times findText findRow exactlyOne atMostOne findParts findNode whole spell each separated putParts putNamed putDimension stringOf putWith isAllowed childKind textAt areNumbers areWhole treeOf walkOf walkEach walkParts flatMap rowsWith storeText putNumber putSpaced putCoordinate putListed putCoordinates putName putComma putHead putBody putNode putMet putAll
 all = 0
 
 -- the kept number text `+4` gets its second plus back, `-4` none
-plused : canonical read point spans ≡ some (bytes "POINT(++4 -4)")
+plused : storeText read point spans ≡ some (bytes "POINT(++4 -4)")
 unfolding all
 plused = refl
 
 -- a letter gets a plus, or it would be read as a word
-letters : canonical (bytes "inf NaN -inf") (1 ∷ 1 ∷ 1 ∷ []) (0 ∷ 3 ∷ 4 ∷ 3 ∷ 8 ∷ 4 ∷ []) ≡ some (bytes "POINT Z(+inf +NaN -inf)")
+letters : storeText (bytes "inf NaN -inf") (1 ∷ 1 ∷ 1 ∷ []) (0 ∷ 3 ∷ 4 ∷ 3 ∷ 8 ∷ 4 ∷ []) ≡ some (bytes "POINT Z(+inf +NaN -inf)")
 unfolding all
 letters = refl
 
@@ -78,6 +86,16 @@ multipolygon = refl
 collection : of (7 ∷ 1 ∷ 3 ∷ 7 ∷ 0 ∷ 1 ∷ 1 ∷ 0 ∷ 0 ∷ 1 ∷ 0 ∷ 1 ∷ 7 ∷ 3 ∷ 0 ∷ []) n12 ≡ some (bytes "GEOMETRYCOLLECTION Z(GEOMETRYCOLLECTION(POINT EMPTY),POINT(1 2),GEOMETRYCOLLECTION ZM EMPTY)")
 unfolding all
 collection = refl
+
+-- put thing by thing as a walk meets them, it is the same text
+by-walk : mapO (λ ms. putAll digits n12 ms []) (walkOf digits (6 ∷ 0 ∷ 2 ∷ 3 ∷ 0 ∷ 1 ∷ 2 ∷ 0 ∷ 1 ∷ 3 ∷ 0 ∷ 0 ∷ []) n12) ≡ some (bytes "MULTIPOLYGON(((1 2)),EMPTY)")
+unfolding all
+by-walk = refl
+
+-- by a walk too an EMPTY geometry in a collection has its name and a space before it, and a letter its plus
+by-walk-named : mapO (λ ms. putAll (bytes "inf2") n32 ms []) (walkOf (bytes "inf2") (7 ∷ 0 ∷ 2 ∷ 2 ∷ 1 ∷ 0 ∷ 1 ∷ 0 ∷ 1 ∷ []) n32) ≡ some (bytes "GEOMETRYCOLLECTION(LINESTRING Z EMPTY,POINT(+inf 2))")
+unfolding all n32
+by-walk-named = refl
 
 -- a number lacks
 ill : of point (0 ∷ 1 ∷ []) ≡ none

@@ -1,3 +1,4 @@
 pub mod Canonical
 pub mod Write
+pub mod Put
 pub mod Examples

@@ -6,16 +6,10 @@ use mathlib.Core.List.{List}
 use Prim.Native.Nat.{ℕ, _+_, _*_, _^_, _≤_, _<_}
 use lib.Dec.{leb}
 use lib.ListN.{length}
-use Rattle.kinds.specs.Kinds.{kindLineString, width}
-use Rattle.store.specs.Rows.{zeros, padded, numberRoom}
-use Rattle.shape.specs.declared.Visit.{Visit}
-use Rattle.shape.specs.Store.{illFormed}
+use Rattle.store.specs.Rows.{zeros, padded}
+use Rattle.refusals.specs.Refusals.{illFormedStore, noRoom}
 use Rattle.to_wkt.specs.declared.WriteAnswer.{WriteAnswer}
-use Rattle.to_wkt.specs.Canonical.{canonical}
-
--- "writer: canonical text longer than the room"
-abbrev pub noRoom : ℕ
-noRoom = 23
+use Rattle.to_wkt.specs.Canonical.{storeText}
 
 -- "Number and place are 0 when accepted, all after the place 0 when refused."
 abbrev pub accepted : ℕ → WriteAnswer
@@ -26,7 +20,7 @@ refused number = record { number = number; place = 0; length = 0 }
 
 -- "The writer tests 22, then 23."
 abbrev pub answerOf : Option (List ℕ) → ℕ → WriteAnswer
-answerOf none room = refused illFormed
+answerOf none room = refused illFormedStore
 answerOf (some bytes) room = cond (leb (length bytes) room) (accepted (length bytes)) (refused noRoom)
 
 -- "A refusing writer zeroes its output; an accepting one zeroes what lies after the text."
@@ -35,8 +29,8 @@ roomAfter none room = zeros room
 roomAfter (some bytes) room = cond (leb (length bytes) room) (padded bytes room) (zeros room)
 
 pub record Written (text nodes numbers : List ℕ) (room : ℕ) (r : WriteAnswer) (out : List ℕ) : Type 0 where
-  pub answer : r ≡ answerOf (canonical text nodes numbers) room
-  pub bytes : out ≡ roomAfter (canonical text nodes numbers) room
+  pub answer : r ≡ answerOf (storeText text nodes numbers) room
+  pub bytes : out ≡ roomAfter (storeText text nodes numbers) room
 
 -- ---- what private functions ask
 -- w indexes from i on fit
@@ -49,7 +43,3 @@ pub record HasCoordinates (i w n : ℕ) : Type 0 where
   pub wide : 1 ≤ w
   pub some : 1 ≤ n
   pub fits : i + n * w < 2 ^ 64
-
--- the numbers of a node of kinds 1 and 2 are among those that there are
-abbrev pub HasNumbers : List ℕ → Visit → Type 0
-HasNumbers numbers v = v .kind ≤ kindLineString → v .number + v .parts * width (v .dimension) ≤ numberRoom numbers

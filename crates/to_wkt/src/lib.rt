@@ -1,16 +1,17 @@
 // The canonical text of a store.
 ghost use mathlib.Core.Path.{_≡_};
-ghost use mathlib.Core.Bool.{true};
-ghost use mathlib.Core.List.{[]};
-ghost use Prim.Native.Nat.{_≤_};
+ghost use mathlib.Core.List.{_∷_};
 ghost use lib.ListN.{length};
-ghost use Rattle.kinds.specs.Kinds.{kindLineString};
+ghost use Rattle.scan.specs.Bytes.{parenOpen};
+ghost use Rattle.scan.specs.Front.{begins};
 ghost use Rattle.names.specs.Letters.{isLetter};
-ghost use Rattle.pen.specs.Pen.{Emits, Left};
-ghost use Rattle.shape.specs.Store.{wellFormed};
-ghost use Rattle.store.specs.Rows.{cleared};
-ghost use Rattle.to_wkt.specs.Canonical.{needsPlus, putNumber, putCoordinate, putCoordinates, putName, putDimension, putHead, putBody, putClosings, putTail, putNode, textOf};
-ghost use Rattle.to_wkt.specs.Write.{HasCoordinate, HasCoordinates, HasNumbers, refused, Written};
+ghost use Rattle.pen.specs.Pen.{Emits};
+ghost use Rattle.canonical_text.specs.Canonical.{needsPlus, putDimension};
+ghost use Rattle.shape.specs.Walk.{NumbersIn, wholeWalk};
+ghost use Rattle.store.specs.Rows.{numberRoom, cleared};
+ghost use Rattle.to_wkt.specs.Canonical.{putNumber, putCoordinate, putCoordinates, putName, putComma, putHead, putBody, putNode};
+ghost use Rattle.to_wkt.specs.Write.{HasCoordinate, HasCoordinates, refused, Written};
+ghost use Rattle.to_wkt.specs.Put.{PutRows};
 use kinds::DIM_XY;
 use kinds::DIM_XYM;
 use kinds::DIM_XYZ;
@@ -34,18 +35,23 @@ use names::POLYGON;
 use names::Z;
 use names::ZM;
 use pen::Pen;
-use shape::Found;
-use shape::ILL_FORMED;
+use refusals::ILL_FORMED_STORE;
+use refusals::NO_ROOM;
+use shape::CELLS;
+use shape::Met;
 use shape::Visit;
-
-// The refusal of a text that is longer than the room.
-pub const NO_ROOM: u32 = 23;
 
 // The length of the text, with number and place 0; or the number of a refusal, with zeros after it.
 pub struct WriteAnswer {
     pub number: u32,
     pub place: usize,
     pub length: usize,
+}
+
+// Whether the rows are no tree; and if they are one, the pen after its text.
+struct PutAnswer {
+    ill: bool,
+    pen: Pen,
 }
 
 // An ASCII letter.
@@ -58,48 +64,55 @@ fn is_letter(b: u8) -> bool
 
 // Whether a number's text begins with `+` or a letter: read without one more `+`, it would lose the one or be a word.
 fn needs_plus(w: &[u8]) -> bool
-    ensures { λ r. ⌜ r ≡ needsPlus (now (w .entry)) ⌝ }
+    ensures { λ r. ⌜ r ≡ begins needsPlus (now (w .entry)) ⌝ }
 {
     if w.len() == 0 {
         return false;
     }
-    (w[0] == b'+') | is_letter(w[0])
+    let b = w[0];
+    if b < b'A' {
+        return b == b'+';
+    }
+    is_letter(b)
 }
 
-fn put_number(out: &mut [u8], p: Pen, text: &[u8], numbers: &[u32], i: usize) -> Pen
-    ensures { λ r. ⌜ Emits (putNumber (now (text .entry)) (now (numbers .entry)) i) p (now (out .entry)) r (now (out .exit)) ⌝ }
+// A number, after the byte `lead`.
+fn put_number(out: &mut [u8], p: Pen, lead: u8, text: &[u8], numbers: &[u32], i: usize) -> Pen
+    ensures { λ r. ⌜ Emits (λ rest. lead ∷ putNumber (now (text .entry)) (now (numbers .entry)) i rest) p (now (out .entry)) r (now (out .exit)) ⌝ }
 {
     let w = shape::number_text(text, numbers, i);
     if needs_plus(w) {
-        let q = pen::put_byte(out, p, b'+');
-        return pen::put(out, q, w);
+        let q = pen::put_byte(out, p, lead);
+        return pen::put_led(out, q, b'+', w);
     }
-    pen::put(out, p, w)
+    pen::put_led(out, p, lead, w)
 }
 
-// `width` numbers from `first` on, separated by blanks.
+// `width` numbers from `first` on, separated by blanks, after the byte `lead`.
 fn put_coordinate(
     out: &mut [u8],
     p: Pen,
+    lead: u8,
     text: &[u8],
     numbers: &[u32],
     first: usize,
     width: usize,
 ) -> Pen
     requires { ⌜ HasCoordinate first width ⌝ }
-    ensures { λ r. ⌜ Emits (putCoordinate (now (text .entry)) (now (numbers .entry)) first width) p (now (out .entry)) r (now (out .exit)) ⌝ }
+    ensures { λ r. ⌜ Emits (λ rest. lead ∷ putCoordinate (now (text .entry)) (now (numbers .entry)) first width rest) p (now (out .entry)) r (now (out .exit)) ⌝ }
 {
-    let mut q = put_number(out, p, text, numbers, first);
-    let mut i = 1;
+    let mut q = p;
+    let mut before = lead;
+    let mut i = 0;
     while i < width {
-        let blank = pen::put_byte(out, q, b' ');
-        q = put_number(out, blank, text, numbers, first + i);
+        q = put_number(out, q, before, text, numbers, first + i);
+        before = b' ';
         i += 1;
     }
     q
 }
 
-// `count` coordinates, their numbers from `first` on, separated by commas.
+// A parenthesis that opens and `count` coordinates, their numbers from `first` on, separated by commas.
 fn put_coordinates(
     out: &mut [u8],
     p: Pen,
@@ -110,14 +123,15 @@ fn put_coordinates(
     count: usize,
 ) -> Pen
     requires { ⌜ HasCoordinates first width count ⌝ }
-    ensures { λ r. ⌜ Emits (putCoordinates (now (text .entry)) (now (numbers .entry)) first width count) p (now (out .entry)) r (now (out .exit)) ⌝ }
+    ensures { λ r. ⌜ Emits (λ rest. parenOpen ∷ putCoordinates (now (text .entry)) (now (numbers .entry)) first width count rest) p (now (out .entry)) r (now (out .exit)) ⌝ }
 {
-    let mut q = put_coordinate(out, p, text, numbers, first, width);
-    let mut at = first + width;
-    let mut i = 1;
+    let mut q = p;
+    let mut before = b'(';
+    let mut at = first;
+    let mut i = 0;
     while i < count {
-        let comma = pen::put_byte(out, q, b',');
-        q = put_coordinate(out, comma, text, numbers, at, width);
+        q = put_coordinate(out, q, before, text, numbers, at, width);
+        before = b',';
         at += width;
         i += 1;
     }
@@ -155,6 +169,16 @@ fn put_dimension(out: &mut [u8], p: Pen, dimension: u32) -> Pen
     }
 }
 
+// The comma before every child but the first.
+fn put_comma(out: &mut [u8], p: Pen, v: Visit) -> Pen
+    ensures { λ r. ⌜ Emits (putComma v) p (now (out .entry)) r (now (out .exit)) ⌝ }
+{
+    if v.parent.next == 0 {
+        return p;
+    }
+    pen::put_byte(out, p, b',')
+}
+
 // The name and the dimension of a node at the root or in a collection, and the blank before its EMPTY.
 fn put_head(out: &mut [u8], p: Pen, v: Visit) -> Pen
     ensures { λ r. ⌜ Emits (putHead v) p (now (out .entry)) r (now (out .exit)) ⌝ }
@@ -172,73 +196,60 @@ fn put_head(out: &mut [u8], p: Pen, v: Visit) -> Pen
 
 // EMPTY, or the parenthesis that opens and, of kinds 1 and 2, the coordinates and the one that closes.
 fn put_body(out: &mut [u8], p: Pen, text: &[u8], numbers: &[u32], v: Visit) -> Pen
-    requires { ⌜ HasNumbers (now numbers) v ⌝ }
+    requires { ⌜ NumbersIn (numberRoom (now numbers)) v ⌝ }
     ensures { λ r. ⌜ Emits (putBody (now (text .entry)) (now (numbers .entry)) v) p (now (out .entry)) r (now (out .exit)) ⌝ }
 {
+    if p.full {
+        return p;
+    }
     if v.parts == 0 {
         return pen::put(out, p, &EMPTY);
     }
-    let open = pen::put_byte(out, p, b'(');
     if KIND_LINESTRING < v.kind {
-        return open;
+        return pen::put_byte(out, p, b'(');
     }
     let width = kinds::width_of(v.dimension);
-    let q = put_coordinates(out, open, text, numbers, v.number, width, v.parts as usize);
+    let q = put_coordinates(out, p, text, numbers, v.number, width, v.parts as usize);
     pen::put_byte(out, q, b')')
 }
 
-fn put_closings(out: &mut [u8], p: Pen, ends: usize) -> Pen
-    ensures { λ r. ⌜ Emits (putClosings ends) p (now (out .entry)) r (now (out .exit)) ⌝ }
-{
-    let mut q = p;
-    let mut i = 0;
-    while i < ends {
-        q = pen::put_byte(out, q, b')');
-        i += 1;
-    }
-    q
-}
-
-// The parentheses of the nodes that end, and a comma if one more child follows.
-fn put_tail(out: &mut [u8], p: Pen, v: Visit) -> Pen
-    ensures { λ r. ⌜ Emits (putTail v) p (now (out .entry)) r (now (out .exit)) ⌝ }
-{
-    let q = put_closings(out, p, v.ends);
-    if v.more {
-        return pen::put_byte(out, q, b',');
-    }
-    q
-}
-
 fn put_node(out: &mut [u8], p: Pen, text: &[u8], numbers: &[u32], v: Visit) -> Pen
-    requires { ⌜ HasNumbers (now numbers) v ⌝ }
+    requires { ⌜ NumbersIn (numberRoom (now numbers)) v ⌝ }
     ensures { λ r. ⌜ Emits (putNode (now (text .entry)) (now (numbers .entry)) v) p (now (out .entry)) r (now (out .exit)) ⌝ }
 {
-    let head = put_head(out, p, v);
-    let body = put_body(out, head, text, numbers, v);
-    put_tail(out, body, v)
+    if p.full {
+        return p;
+    }
+    let comma = put_comma(out, p, v);
+    let head = put_head(out, comma, v);
+    put_body(out, head, text, numbers, v)
 }
 
-fn put_nodes(out: &mut [u8], text: &[u8], nodes: &[u32], numbers: &[u32]) -> Pen
-    requires { ⌜ wellFormed (now text) (now nodes) (now numbers) ≡ true ⌝ }
-    ensures { λ r. ⌜ Left (textOf (now (text .entry)) (now (nodes .entry)) (now (numbers .entry))) [] r (now (out .exit)) ⌝ }
+// Puts all that a walk over the rows meets, if they are a tree.
+fn put_rows(out: &mut [u8], text: &[u8], nodes: &[u32], numbers: &[u32]) -> PutAnswer
+    ensures { λ r. ⌜ PutRows (now (text .entry)) (now (numbers .entry)) (wholeWalk (now (nodes .entry)) (numberRoom (now (numbers .entry)))) r (now (out .exit)) ⌝ }
 {
     let count = store::number_room(numbers);
-    let mut c = shape::start();
-    let mut p = Pen { at: 0, full: false };
+    let mut cells = [0; CELLS];
+    let mut w = shape::start(&mut cells);
+    let mut pen = Pen { at: 0, full: false };
     loop {
-        let s = shape::next(nodes, count, c);
-        let found = s.found;
-        match found {
-            Found::Node(v) => {
-                p = put_node(out, p, text, numbers, v);
-                c = s.next;
+        let s = shape::step(nodes, count, &mut cells, w);
+        let met = s.met;
+        match met {
+            Met::Node(v) => {
+                pen = put_node(out, pen, text, numbers, v);
+                w = s.next;
             }
-            Found::Done => {
-                return p;
+            Met::End(_, _) => {
+                pen = pen::put_byte(out, pen, b')');
+                w = s.next;
             }
-            Found::Ill => {
-                return p;
+            Met::Done => {
+                return PutAnswer { ill: false, pen };
+            }
+            Met::Ill => {
+                return PutAnswer { ill: true, pen };
             }
         }
     }
@@ -260,10 +271,14 @@ fn refuse(out: &mut [u8], number: u32) -> WriteAnswer
 pub fn write(text: &[u8], nodes: &[u32], numbers: &[u32], out: &mut [u8]) -> WriteAnswer
     ensures { λ r. ⌜ Written (now (text .entry)) (now (nodes .entry)) (now (numbers .entry)) (length (now (out .entry))) r (now (out .exit)) ⌝ }
 {
-    if !shape::check(text, nodes, numbers) {
-        return refuse(out, ILL_FORMED);
+    if !shape::are_rows(text, nodes, numbers) {
+        return refuse(out, ILL_FORMED_STORE);
     }
-    let p = put_nodes(out, text, nodes, numbers);
+    let r = put_rows(out, text, nodes, numbers);
+    if r.ill {
+        return refuse(out, ILL_FORMED_STORE);
+    }
+    let p = r.pen;
     if p.full {
         return refuse(out, NO_ROOM);
     }

@@ -1,6 +1,6 @@
 // The token reader: a lent text and the place in it together, `Tokens` of the Rust's tokenizer.rs.
 // A function over this struct is proved by a walk of its code, by hand. So each is thin: it takes the struct apart and leaves the work to
-// the cursor's own step. A caller of `step_from`, `first` or `nth`, whose parameters are plain, needs no walk.
+// the cursor's own step.
 use tokenizer::Cursor;
 use tokenizer::Found;
 use tokenizer::Step;
@@ -80,19 +80,47 @@ impl<'a> Tokens<'a> {
     }
 }
 
-// From a slice through a reader and back.
-pub fn step_from(text: &[u8], cursor: Cursor) -> Step
+// The four steps from a slice and a cursor, through a reader: by value, and lent. A caller's parameters are plain, so it needs no walk.
+pub fn take_from(text: &[u8], cursor: Cursor) -> Step
     ensures { λ r. ⌜ r ≡ takeAt (now (text .entry)) cursor ⌝ }
 {
-    Tokens::new(text, cursor).take()
+    Tokens::from_slice(text).moved(cursor).take()
 }
 
-// The first token from a place on, by a reader that is lent.
+pub fn look_from(text: &[u8], cursor: Cursor) -> Step
+    ensures { λ r. ⌜ r ≡ lookAt (now (text .entry)) cursor ⌝ }
+{
+    Tokens::from_slice(text).moved(cursor).look()
+}
+
+pub fn next_from(text: &[u8], cursor: Cursor) -> Step
+    ensures { λ r. ⌜ r ≡ takeAt (now (text .entry)) cursor ⌝ }
+{
+    let mut tokens = Tokens::new(text, cursor);
+    let found = tokens.next();
+    Step {
+        found,
+        next: tokens.cursor,
+    }
+}
+
+pub fn peek_from(text: &[u8], cursor: Cursor) -> Step
+    ensures { λ r. ⌜ r ≡ lookAt (now (text .entry)) cursor ⌝ }
+{
+    let mut tokens = Tokens::new(text, cursor);
+    let found = tokens.peek();
+    Step {
+        found,
+        next: tokens.cursor,
+    }
+}
+
+// The first token from a place on.
 pub fn first(text: &[u8], place: usize) -> Found
     ensures { λ r. ⌜ r ≡ nextOf (reader (text .entry) (cursorAt place)) ⌝ }
 {
-    let mut tokens = Tokens::at(text, place);
-    tokens.next()
+    let step = next_from(text, Cursor::new(place));
+    step.found
 }
 
 // The token that comes after `n` others, from a place on.
@@ -102,10 +130,10 @@ pub fn nth(text: &[u8], place: usize, n: usize) -> Found
     let mut cursor = Cursor::new(place);
     let mut left = n;
     while left > 0 {
-        let step = step_from(text, cursor);
+        let step = take_from(text, cursor);
         cursor = step.next;
         left -= 1;
     }
-    let step = step_from(text, cursor);
+    let step = take_from(text, cursor);
     step.found
 }

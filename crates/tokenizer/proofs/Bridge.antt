@@ -21,7 +21,7 @@ use Rattle.number.specs.Lexeme.{isLexeme, upToStop}
 use Rattle.tokenizer.specs.declared.Found.{Found}
 use Rattle.tokenizer.specs.declared.Read.{Read}
 use Rattle.tokenizer.specs.declared.Refusal.{Refusal}
-use Rattle.tokenizer.specs.Tokens.{badNumber, badAt, endOf, afterBlank, textStart, numberOr, numberAt, wordAt, startAt, tokenAt, readAt}
+use Rattle.tokenizer.specs.Tokens.{badNumberAt, badAt, endOf, afterBlank, textStart, numberOr, numberAt, wordAt, startAt, tokenAt, readAt}
 use Rattle.tokenizer.specs.Stream.{Tk, open-tk, close-tk, comma-tk, none-tk, bad-tk, word-tk, number-tk, tok, Str, end, then, cons, tokIn, toksBy, toks}
 use Rattle.tokenizer.specs.Lex.{markTk, numberTk, runTk, Lexed, lexed, flush, push, lexByte, lexRun, lex}
 use Rattle.tokenizer.proofs.Stream.{read-on, read-within, none-end, plus-end}
@@ -215,12 +215,12 @@ module _ (text : List ℕ) where
 
         go : (x : Bool) → eqb c 43 ≡ x → L p ≡ cons (tokIn text (numberAt text p .found)) (L (numberAt text p .at))
         go true e =
-            let f : runTk p c rest ≡ numberTk (badNumber p (c ∷ rest)) (p + 1) rest = rw (n, e) in
-            let g : runTk p c rest ≡ numberTk (badAt text p) (p + 1) rest = f ∙ ap (λ (l : List ℕ). numberTk (badNumber p l) (p + 1) rest) all in
+            let f : runTk p c rest ≡ numberTk (badNumberAt p (c ∷ rest)) (p + 1) rest = rw (n, e) in
+            let g : runTk p c rest ≡ numberTk (badAt text p) (p + 1) rest = f ∙ ap (λ (l : List ℕ). numberTk (badNumberAt p l) (p + 1) rest) all in
             ran ∙ ap (λ (k : Tk). then (tok p k) (L (endOf text p))) g ∙ from (p + 1) (one-on isPlus text p (rw w e))
         go false e =
-            let f : runTk p c rest ≡ numberTk (badNumber p (c ∷ rest)) p (c ∷ rest) = rw (n, e) in
-            let g : runTk p c rest ≡ numberTk (badAt text p) p (part text p (endOf text p)) = f ∙ ap (λ (l : List ℕ). numberTk (badNumber p l) p l) all in
+            let f : runTk p c rest ≡ numberTk (badNumberAt p (c ∷ rest)) p (c ∷ rest) = rw (n, e) in
+            let g : runTk p c rest ≡ numberTk (badAt text p) p (part text p (endOf text p)) = f ∙ ap (λ (l : List ℕ). numberTk (badNumberAt p l) p l) all in
             ran ∙ ap (λ (k : Tk). then (tok p k) (L (endOf text p))) g ∙ from p (one-off isPlus text p (rw w e))
 
     word-is : (c : ℕ) → getD text p 0 ≡ c → isBlank c ≡ false → isStop c ≡ false → isNumberlike c ≡ false → L p ≡ cons (tokIn text (wordAt text p .found)) (L (wordAt text p .at))

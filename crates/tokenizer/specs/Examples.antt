@@ -1,16 +1,22 @@
 -- Worked examples of this crate's definitions, by computation.
 use mathlib.Core.Path.{_≡_, refl}
 use mathlib.Core.List.{List, [], _∷_, _++_}
+use mathlib.Core.Bool.{Bool, false}
 use Prim.Native.Nat.{ℕ}
+use lib.Dec.{eqb, ltb}
+use lib.ListN.{length}
+use Rattle.lists.specs.Lists.{passing, bytesThat}
 use Rattle.scan.specs.Text.{bytes}
 use Rattle.scan.specs.Front.{begins, afterOne, afterAll, isNil}
 use Rattle.scan.specs.Runs.{run, firstNot, afterOneAt}
 use Rattle.words.specs.Words.{sameWord}
 use Rattle.number.specs.Lexeme.{isNamed, isDigits, isExponent, isDecimal, isUnsigned, isLexeme}
 use Rattle.tokenizer.specs.declared.Token.{Token}
+use Rattle.tokenizer.specs.declared.Token.the-variants.{Comma, Number, ParenClose, ParenOpen, Word}
 use Rattle.tokenizer.specs.declared.Found.{Found}
+use Rattle.tokenizer.specs.declared.Held.{Held}
 use Rattle.tokenizer.specs.declared.Step.{Step}
-use Rattle.tokenizer.specs.Tokens.{numberAt, wordAt, startAt, tokenAt, readAt, takeHeld, takeAt, lookAt, cursorAt, read}
+use Rattle.tokenizer.specs.Tokens.{numberAt, wordAt, startAt, tokenAt, readAt, takeHeld, takeAt, lookAt, cursorAt, read, badAt}
 use Rattle.tokenizer.specs.Stream.{Str, end, then, tok, none-tk, bad-tk, open-tk, close-tk, word-tk, number-tk, cons, toksBy, toks, stream}
 
 -- `POINT(++4 -4e x`, NUL, `)`
@@ -46,7 +52,83 @@ looked : (takeAt text (lookAt text (cursorAt 15) .next) .found ≡ Found.NoToken
 unfolding all
 looked = (refl, refl)
 
+-- each sort of what is held comes out as it was found, the place is left alone, and nothing is held after it
+out : (takeAt text (record { at = 3; held = Held.NoToken 1 }) ≡ record { found = Found.NoToken 1; next = cursorAt 3 })
+    × (takeAt text (record { at = 3; held = Held.BadNumber 1 }) ≡ record { found = Found.BadNumber 1; next = cursorAt 3 })
+    × (takeAt text (record { at = 3; held = Held.Is 1 Token.Comma }) ≡ record { found = Found.Is 1 Token.Comma; next = cursorAt 3 })
+unfolding all
+out = (refl, refl, refl)
+
+-- and is held as it was found
+held : (lookAt text (cursorAt 15) .next ≡ record { at = 16; held = Held.NoToken 15 }) × (lookAt text (cursorAt 10) .next ≡ record { at = 14; held = Held.BadNumber 10 }) × (lookAt text (cursorAt 5) .next ≡ record { at = 6; held = Held.Is 5 Token.ParenOpen })
+unfolding all
+held = (refl, refl, refl)
+
 -- the stream from 9 on
 tokens : stream text (cursorAt 9) ≡ then (tok 10 (bad-tk (record { number = 6; place = 10 }))) (then (tok 14 (word-tk (bytes "x"))) (then (tok 15 none-tk) (then (tok 16 close-tk) (end 17))))
 unfolding all
 tokens = refl
+
+-- ---- by the whole range of bytes
+-- the sorts of what is found, numbered as they stand here
+sortOf : Found → ℕ
+sortOf (Found.NoToken p) = 0
+sortOf (Found.BadNumber p) = 1
+sortOf (Found.Is p ParenOpen) = 2
+sortOf (Found.Is p ParenClose) = 3
+sortOf (Found.Is p Comma) = 4
+sortOf (Found.Is p (Number start len)) = 5
+sortOf (Found.Is p (Word start len)) = 6
+
+-- a number's text that starts behind the token's own start
+startsLater : Found → Bool
+startsLater (Found.NoToken p) = false
+startsLater (Found.BadNumber p) = false
+startsLater (Found.Is p ParenOpen) = false
+startsLater (Found.Is p ParenClose) = false
+startsLater (Found.Is p Comma) = false
+startsLater (Found.Is p (Number start len)) = ltb p start
+startsLater (Found.Is p (Word start len)) = ltb p start
+
+-- is this what a text of the one byte b starts with
+startsAs : ℕ → ℕ → Bool
+unfolding all sortOf
+startsAs sort b = eqb (sortOf (readAt (b ∷ []) 0 .found)) sort
+
+-- NUL and blanks are no token, `+`, `-` and `.` bad numbers, the marks and the digits what they are, and all others words
+starts : (bytesThat (startsAs 0) ≡ 0 ∷ 9 ∷ 10 ∷ 13 ∷ 32 ∷ [])
+    × (bytesThat (startsAs 1) ≡ 43 ∷ 45 ∷ 46 ∷ [])
+    × (bytesThat (startsAs 2) ≡ 40 ∷ [])
+    × (bytesThat (startsAs 3) ≡ 41 ∷ [])
+    × (bytesThat (startsAs 4) ≡ 44 ∷ [])
+    × (bytesThat (startsAs 5) ≡ 48 ∷ 49 ∷ 50 ∷ 51 ∷ 52 ∷ 53 ∷ 54 ∷ 55 ∷ 56 ∷ 57 ∷ [])
+    × (length (bytesThat (startsAs 6)) ≡ 235)
+unfolding all passing startsAs sortOf
+starts = (refl, refl, refl, refl, refl, refl, refl)
+
+-- the bytes that end `A` and `1` before a `B`, and those of them that are taken behind it
+ends : (bytesThat (λ b. eqb (readAt (65 ∷ b ∷ 66 ∷ []) 0 .at) 1) ≡ 0 ∷ 40 ∷ 41 ∷ 44 ∷ [])
+    × (bytesThat (λ b. eqb (readAt (65 ∷ b ∷ 66 ∷ []) 0 .at) 2) ≡ 9 ∷ 10 ∷ 13 ∷ 32 ∷ [])
+    × (bytesThat (λ b. eqb (readAt (49 ∷ b ∷ 66 ∷ []) 0 .at) 1) ≡ 0 ∷ 40 ∷ 41 ∷ 44 ∷ [])
+    × (bytesThat (λ b. eqb (readAt (49 ∷ b ∷ 66 ∷ []) 0 .at) 2) ≡ 9 ∷ 10 ∷ 13 ∷ 32 ∷ [])
+unfolding all passing
+ends = (refl, refl, refl, refl)
+
+-- the bytes that are dropped before `4`: one `+`
+dropped : bytesThat (λ b. startsLater (readAt (b ∷ 52 ∷ []) 0 .found)) ≡ 43 ∷ []
+unfolding all passing startsLater
+dropped = refl
+
+-- one `+` is dropped, and the rest must be a lexeme: `+4`, `++4`, `+-4`, `-4`, and `+++4`, `+`, `-+4`, which are bad
+plusses : (readAt (bytes "+4") 0 .found ≡ Found.Is 0 (Number 1 1)) × (readAt (bytes "++4") 0 .found ≡ Found.Is 0 (Number 1 2)) × (readAt (bytes "+-4") 0 .found ≡ Found.Is 0 (Number 1 2)) × (readAt (bytes "-4") 0 .found ≡ Found.Is 0 (Number 0 2)) × (readAt (bytes "+inf") 0 .found ≡ Found.Is 0 (Number 1 3)) × (readAt (bytes "+++4") 0 .found ≡ Found.BadNumber 0) × (readAt (bytes "+") 0 .found ≡ Found.BadNumber 0) × (readAt (bytes "-+4") 0 .found ≡ Found.BadNumber 0)
+unfolding all
+plusses = (refl, refl, refl, refl, refl, refl, refl, refl)
+
+-- each sort of token after blanks, with its place and the place behind it; one blank of two is taken
+placed : (readAt (bytes " \t(x") 0 ≡ read (Found.Is 2 ParenOpen) 3) × (readAt (bytes "\n)x") 0 ≡ read (Found.Is 1 ParenClose) 2) × (readAt (bytes "\r,x") 0 ≡ read (Found.Is 1 Comma) 2) × (readAt (bytes " 12  x") 0 ≡ read (Found.Is 1 (Number 1 2)) 4) × (readAt (bytes " ab  x") 0 ≡ read (Found.Is 1 (Word 1 2)) 4) × (readAt (bytes " 1x  x") 0 ≡ read (Found.BadNumber 1) 4) × (readAt (bytes "  \0x") 0 ≡ read (Found.NoToken 2) 3) × (readAt (bytes "   ") 0 ≡ read (Found.NoToken 3) 3)
+unfolding all
+placed = (refl, refl, refl, refl, refl, refl, refl, refl)
+
+-- "A bad number that is taken gives 6", where it starts
+refusal : badAt (bytes "(+x)") 1 ≡ record { number = 6; place = 1 }
+refusal = refl

@@ -1,12 +1,13 @@
 -- What a demand for a token finds (document 01, "Tokens").
 use Prim.Native.Nat.{ℕ, _+_, _-_}
-use mathlib.Core.Bool.{Bool, true, false, cond}
+use mathlib.Core.Bool.{Bool, true, false, cond, _&&_}
 use mathlib.Core.List.{List}
 use lib.ListN.{length, getD}
-use lib.Dec.{eqb, leb}
+use lib.Dec.{eqb, ltb, leb}
 use Rattle.scan.specs.Bytes.{nul, parenOpen, parenClose, comma, isBlank, isInner, isNumberlike, isPlus}
 use Rattle.scan.specs.Front.{part}
 use Rattle.scan.specs.Runs.{firstNot, afterOneAt}
+use Rattle.refusals.specs.Refusals.{badNumber}
 use Rattle.number.specs.declared.Lexeme.{Lexeme}
 use Rattle.number.specs.Lexeme.{isLexeme, upToStop}
 use Rattle.tokenizer.specs.declared.Token.{Token}
@@ -16,6 +17,7 @@ use Rattle.tokenizer.specs.declared.Held.{Held}
 use Rattle.tokenizer.specs.declared.Read.{Read}
 use Rattle.tokenizer.specs.declared.Cursor.{Cursor}
 use Rattle.tokenizer.specs.declared.Step.{Step}
+use Rattle.tokenizer.specs.declared.Passed.{Passed}
 use Rattle.tokenizer.specs.declared.Refusal.{Refusal}
 
 abbrev pub read : Found → ℕ → Read
@@ -27,12 +29,12 @@ endOf text p = firstNot isInner text p
 
 -- "A bad number that is taken gives 6", and the place is "the start of the token at fault (a `+` counts as its start)":
 -- the refusal of a bad number that starts at p, with its bytes
-abbrev pub badNumber : ℕ → List ℕ → Refusal
-badNumber p run = record { number = 6; place = p }
+abbrev pub badNumberAt : ℕ → List ℕ → Refusal
+badNumberAt p run = record { number = badNumber; place = p }
 
 -- of the one that stands at p in a text
 abbrev pub badAt : List ℕ → ℕ → Refusal
-badAt text p = badNumber p (part text p (endOf text p))
+badAt text p = badNumberAt p (part text p (endOf text p))
 
 -- "Both run to a blank (taken too) or to NUL, `(`, `)` or `,` (not taken)."
 abbrev pub afterBlank : List ℕ → ℕ → ℕ
@@ -102,3 +104,35 @@ hold (Found.Is p t) = Held.Is p t
 -- what would be taken, which is held
 abbrev pub lookAt : List ℕ → Cursor → Step
 lookAt text c = step (takeAt text c .found) (record { at = takeAt text c .next .at; held = hold (takeAt text c .found) })
+
+abbrev pub isNothing : Held → Bool
+isNothing Held.Nothing = true
+isNothing (Held.NoToken p) = false
+isNothing (Held.BadNumber p) = false
+isNothing (Held.Is p t) = false
+
+abbrev pub isCommaToken : Token → Bool
+isCommaToken Comma = true
+isCommaToken (Number s l) = false
+isCommaToken ParenClose = false
+isCommaToken ParenOpen = false
+isCommaToken (Word s l) = false
+
+abbrev pub isComma : Found → Bool
+isComma (Found.NoToken p) = false
+isComma (Found.BadNumber p) = false
+isComma (Found.Is p t) = isCommaToken t
+
+-- nothing is held, and the byte b stands at the cursor
+abbrev pub standsAt : List ℕ → ℕ → Cursor → Bool
+standsAt text b c = ltb (c .at) (length text) && (isNothing (c .held) && eqb (getD text (c .at) 0) b)
+
+abbrev pub passed : Bool → Cursor → Passed
+passed b c = record { comma = b; next = c }
+
+-- the next token is looked at, and taken if it is a comma
+abbrev pub passBy : Step → Passed
+passBy s = cond (isComma (s .found)) (passed true (cursorAt (s .next .at))) (passed false (s .next))
+
+unfoldable pub passComma : List ℕ → Cursor → Passed
+passComma text c = passBy (lookAt text c)

@@ -1,5 +1,6 @@
 // The tokens of a text, one at a time: `tokenizer.rs` of the Rust, with `Peekable` as a cursor that is handed on by value.
 use number::read_lexeme;
+use refusals::BAD_NUMBER;
 use scan::after_blank;
 use scan::after_plus;
 use scan::is_numberlike;
@@ -8,12 +9,9 @@ use scan::token_end;
 ghost use mathlib.Core.Path.{_≡_};
 ghost use Prim.Native.Nat.{_<_};
 ghost use lib.ListN.{length};
-ghost use Rattle.tokenizer.specs.Tokens.{numberAt, wordAt, readAt, cursorAt, takeAt, hold, lookAt, badAt};
+ghost use Rattle.tokenizer.specs.Tokens.{numberAt, wordAt, readAt, cursorAt, takeAt, hold, lookAt, badAt, isNothing, isComma, standsAt, passComma};
 
 const NUL: u8 = 0;
-
-// The refusal of a bad number.
-const UNABLE_TO_PARSE: u32 = 6;
 
 pub enum Token {
     Comma,
@@ -59,6 +57,12 @@ pub struct Step {
     pub next: Cursor,
 }
 
+// Whether a comma was passed over, and the cursor to go on with, which holds any other token.
+pub struct Passed {
+    pub comma: bool,
+    pub next: Cursor,
+}
+
 // A refusal's number and place.
 pub struct Refusal {
     pub number: u32,
@@ -66,11 +70,11 @@ pub struct Refusal {
 }
 
 // The refusal of the bad number that starts at `place`.
-pub fn bad_number(text: &[u8], place: usize) -> Refusal
+pub fn bad_number_at(text: &[u8], place: usize) -> Refusal
     ensures { λ r. ⌜ r ≡ badAt (now (text .entry)) place ⌝ }
 {
     Refusal {
-        number: UNABLE_TO_PARSE,
+        number: BAD_NUMBER,
         place,
     }
 }
@@ -148,6 +152,33 @@ fn held_of(found: Found) -> Held
     }
 }
 
+fn is_nothing(held: Held) -> bool
+    ensures { λ r. ⌜ r ≡ isNothing held ⌝ }
+{
+    match held {
+        Held::Nothing => true,
+        Held::NoToken(_) => false,
+        Held::BadNumber(_) => false,
+        Held::Is(_, _) => false,
+    }
+}
+
+fn is_comma(found: Found) -> bool
+    ensures { λ r. ⌜ r ≡ isComma found ⌝ }
+{
+    match found {
+        Found::NoToken(_) => false,
+        Found::BadNumber(_) => false,
+        Found::Is(_, token) => match token {
+            Token::Comma => true,
+            Token::Number(_, _) => false,
+            Token::ParenClose => false,
+            Token::ParenOpen => false,
+            Token::Word(_, _) => false,
+        },
+    }
+}
+
 impl Cursor {
     // A cursor at a place of a text, with nothing held.
     pub fn new(place: usize) -> Self
@@ -157,6 +188,18 @@ impl Cursor {
             at: place,
             held: Held::Nothing,
         }
+    }
+
+    // Whether nothing is held and the byte `mark` stands at the cursor, with no blank in front.
+    pub fn stands_at(self, text: &[u8], mark: u8) -> bool
+        ensures { λ r. ⌜ r ≡ standsAt (now (text .entry)) mark self ⌝ }
+    {
+        let at = self.at;
+        let held = self.held;
+        if text.len() <= at {
+            return false;
+        }
+        is_nothing(held) & (text[at] == mark)
     }
 
     // The next token, which is passed over.
@@ -205,6 +248,46 @@ impl Cursor {
                 at,
                 held: held_of(found),
             },
+        }
+    }
+
+    // Looks at the next token, and takes it if it is a comma.
+    pub fn pass_comma(self, text: &[u8]) -> Passed
+        ensures { λ r. ⌜ r ≡ passComma (now (text .entry)) self ⌝ }
+    {
+        let at = self.at;
+        // Most commas stand right behind what they follow, and so does most of what is no comma: `)`.
+        if self.stands_at(text, b',') {
+            return Passed {
+                comma: true,
+                next: Cursor {
+                    at: at + 1,
+                    held: Held::Nothing,
+                },
+            };
+        }
+        if self.stands_at(text, b')') {
+            return Passed {
+                comma: false,
+                next: Cursor {
+                    at: at + 1,
+                    held: Held::Is(at, Token::ParenClose),
+                },
+            };
+        }
+        let step = self.look(text);
+        let found = step.found;
+        let next = step.next;
+        if is_comma(found) {
+            Passed {
+                comma: true,
+                next: Cursor {
+                    at: next.at,
+                    held: Held::Nothing,
+                },
+            }
+        } else {
+            Passed { comma: false, next }
         }
     }
 }

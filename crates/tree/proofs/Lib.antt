@@ -1,1 +1,2 @@
 pub mod TreeIn
+pub mod Closed

@@ -1,6 +1,7 @@
 -- `findTree` finds a tree in its own rows and number texts, whatever follows them, and finds nothing else.
 -- Assumes nothing.
-use mathlib.Core.Path.{_≡_, refl, ap, _∙_}
+use mathlib.Core.Path.{_≡_, refl, ap, sym, _∙_}
+use mathlib.Core.Logic.{_↔_}
 use mathlib.Core.Option.{some}
 use mathlib.Core.List.{List, [], _∷_, _++_, flatMap, append-assoc, append-nil}
 use Prim.Native.Nat.{ℕ, zero, suc, _+_}
@@ -9,13 +10,13 @@ use lib.Dec.{eqb, leb}
 use lib.ListN.{length}
 use borrow.Author.Tests.{eq-eqb, le-leb, eqb-true, leb-true}
 use Rattle.kinds.specs.Kinds.{kindPoint, kindLineString, kindPolygon, kindMultiPoint, kindMultiLineString, kindMultiPolygon, kindGeometryCollection, dimXYZM, width}
-use Rattle.store.specs.Rows.{Row, row}
+use Rattle.store.specs.Rows.{Row, row, Span, span}
 use Rattle.lists.proofs.Cases.{either}
 use Rattle.lists.specs.Lists.{All}
-use Rattle.tree.specs.Tree.{Coord, Node, pointN, lineN, polygonN, multipointN, multilineN, multipolygonN, collectionN, Tree, rowsWith, noRows, pointRows, lineRows, polygonRows, nodeRows, rows, coordTexts, lineTexts, polygonTexts, nodeTexts, noTexts, texts, IsDimension, CoordShape, LineShape, PolygonShape, NodeShape, NoShape, Shape}
-use Rattle.tree.specs.TreeIn.{Front, ill, front, Finder, onFront, asA, findNone, times, findText, findCoord, findRow, findLine, findPolygon, exactlyOne, findPoint, atMostOne, findParts, findNode, findTree, whole, treeIn}
+use Rattle.tree.specs.Tree.{Coord, Node, pointN, lineN, polygonN, multipointN, multilineN, multipolygonN, collectionN, Tree, rowsWith, noRows, pointRows, lineRows, polygonRows, nodeRows, rows, coordTexts, lineTexts, polygonTexts, nodeTexts, noTexts, texts, IsDimension, CoordShape, LineShape, PolygonShape, NodeShape, NoShape, Shape, Lexeme}
+use Rattle.tree.specs.TreeIn.{SpanIn, spanTexts, Front, ill, front, Finder, onFront, asA, findNone, times, findText, findCoord, findRow, findLine, findPolygon, exactlyOne, findPoint, atMostOne, findParts, findNode, findTree, whole, treeIn}
 
-abbrev Texts : Type 0
+abbrev pub Texts : Type 0
 Texts = List (List ℕ)
 
 -- ---- a part is found in its own rows and texts
@@ -77,97 +78,97 @@ unfolding Finds whole
 tree-in d t g = rw (append-nil (rows d t), append-nil (texts d t)) at (ap whole (tree-finds d t g [] []))
 
 -- ---- and nothing else is found
-abbrev Holds : {X : Type 0} → (X → List Row → Texts → Type 0) → Front X → Type 0
-Holds Q ill = Unit {0}
-Holds Q (front x rs ns) = Q x rs ns
+abbrev pub FoundAs : {X : Type 0} → (X → List Row → Texts → Type 0) → Front X → Type 0
+FoundAs Q ill = Unit {0}
+FoundAs Q (front x rs ns) = Q x rs ns
 
-on-holds : {X Y : Type 0} (Q : X → List Row → Texts → Type 0) (R : Y → List Row → Texts → Type 0) (p : Front X) (f : X → Finder Y)
-    → Holds Q p → ((x : X) (rs : List Row) (ns : Texts) → Q x rs ns → Holds R (f x rs ns)) → Holds R (onFront p f)
+on-found : {X Y : Type 0} (Q : X → List Row → Texts → Type 0) (R : Y → List Row → Texts → Type 0) (p : Front X) (f : X → Finder Y)
+    → FoundAs Q p → ((x : X) (rs : List Row) (ns : Texts) → Q x rs ns → FoundAs R (f x rs ns)) → FoundAs R (onFront p f)
 unfolding onFront
-on-holds Q R ill f h k = tt
-on-holds Q R (front x rs ns) f h k = k x rs ns h
+on-found Q R ill f h k = tt
+on-found Q R (front x rs ns) f h k = k x rs ns h
 
-as-holds : {X Y : Type 0} (Q : X → List Row → Texts → Type 0) (R : Y → List Row → Texts → Type 0) (c : X → Y) (p : Front X)
-    → Holds Q p → ((x : X) (rs : List Row) (ns : Texts) → Q x rs ns → R (c x) rs ns) → Holds R (asA c p)
+as-found : {X Y : Type 0} (Q : X → List Row → Texts → Type 0) (R : Y → List Row → Texts → Type 0) (c : X → Y) (p : Front X)
+    → FoundAs Q p → ((x : X) (rs : List Row) (ns : Texts) → Q x rs ns → R (c x) rs ns) → FoundAs R (asA c p)
 unfolding asA
-as-holds Q R c p h k = on-holds Q R p _ h k
+as-found Q R c p h k = on-found Q R p _ h k
 
-holds-map : {X : Type 0} (Q R : X → List Row → Texts → Type 0) (p : Front X) → Holds Q p → ((x : X) (rs : List Row) (ns : Texts) → Q x rs ns → R x rs ns) → Holds R p
-holds-map Q R ill h k = tt
-holds-map Q R (front x rs ns) h k = k x rs ns h
+found-map : {X : Type 0} (Q R : X → List Row → Texts → Type 0) (p : Front X) → FoundAs Q p → ((x : X) (rs : List Row) (ns : Texts) → Q x rs ns → R x rs ns) → FoundAs R p
+found-map Q R ill h k = tt
+found-map Q R (front x rs ns) h k = k x rs ns h
 
 -- the rows and the number texts that stood in front are those of x
-abbrev Is : {X : Type 0} → (X → List Row) → (X → Texts) → (X → Type 0) → List Row → Texts → X → List Row → Texts → Type 0
+abbrev pub Is : {X : Type 0} → (X → List Row) → (X → Texts) → (X → Type 0) → List Row → Texts → X → List Row → Texts → Type 0
 Is ro nu Q rs ns x rs1 ns1 = (rs ≡ ro x ++ rs1) × (ns ≡ nu x ++ ns1) × Q x
 
-abbrev Sound : {X : Type 0} → (X → List Row) → (X → Texts) → (X → Type 0) → Finder X → Type 0
-Sound ro nu Q f = (rs : List Row) (ns : Texts) → Holds (Is ro nu Q rs ns) (f rs ns)
+abbrev pub Sound : {X : Type 0} → (X → List Row) → (X → Texts) → (X → Type 0) → Finder X → Type 0
+Sound ro nu Q f = (rs : List Row) (ns : Texts) → FoundAs (Is ro nu Q rs ns) (f rs ns)
 
-abbrev Counted : {X : Type 0} → (X → Type 0) → ℕ → List X → Type 0
-Counted Q n xs = All Q xs × (length xs ≡ n)
+abbrev pub ExactlyAll : {X : Type 0} → (X → Type 0) → ℕ → List X → Type 0
+ExactlyAll Q n xs = All Q xs × (length xs ≡ n)
 
 text-sound : (n : ℕ) → Sound noRows coordTexts (λ c. length c ≡ n) (times findText n)
 unfolding times findText onFront
 text-sound zero rs ns = (refl, refl, refl)
 text-sound (suc n) rs [] = tt
 text-sound (suc n) rs (x ∷ ns) =
-    as-holds (Is noRows coordTexts (λ c. length c ≡ n) rs ns) _ _ (times findText n rs ns) (text-sound n rs ns)
+    as-found (Is noRows coordTexts (λ c. length c ≡ n) rs ns) _ _ (times findText n rs ns) (text-sound n rs ns)
     λ c rs1 ns1 h. (h .0, ap (λ (l : Texts). x ∷ l) (h .1), ap suc (h .2))
 
-coord-sound : (d : ℕ) → Sound noRows coordTexts (CoordShape d) (findCoord d)
+pub coord-sound : (d : ℕ) → Sound noRows coordTexts (CoordShape d) (findCoord d)
 coord-sound d = text-sound (width d)
 
 module _ {X : Type 0} (ro : X → List Row) (nu : X → Texts) (Q : X → Type 0) (f : Finder X) (s : Sound ro nu Q f) where
-  times-sound : (n : ℕ) → Sound (flatMap ro) (flatMap nu) (Counted Q n) (times f n)
+  pub times-sound : (n : ℕ) → Sound (flatMap ro) (flatMap nu) (ExactlyAll Q n) (times f n)
   unfolding times flatMap All
   times-sound zero rs ns = (refl, refl, (tt, refl))
   times-sound (suc n) rs ns =
-      on-holds (Is ro nu Q rs ns) _ (f rs ns) _ (s rs ns)
-      λ x rs1 ns1 h. as-holds (Is (flatMap ro) (flatMap nu) (Counted Q n) rs1 ns1) _ _ (times f n rs1 ns1) (times-sound n rs1 ns1)
+      on-found (Is ro nu Q rs ns) _ (f rs ns) _ (s rs ns)
+      λ x rs1 ns1 h. as-found (Is (flatMap ro) (flatMap nu) (ExactlyAll Q n) rs1 ns1) _ _ (times f n rs1 ns1) (times-sound n rs1 ns1)
       λ xs rs2 ns2 k. (rw (h .0, k .0, append-assoc), rw (h .1, k .1, append-assoc), ((h .2, k .2 .0), ap suc (k .2 .1)))
 
   -- under a row that says how many
-  parts-sound : (k d n : ℕ) (rs : List Row) (ns : Texts) → Holds (Is (rowsWith k d ro) (flatMap nu) (Counted Q n) (row k d n ∷ rs) ns) (times f n rs ns)
+  parts-sound : (k d n : ℕ) (rs : List Row) (ns : Texts) → FoundAs (Is (rowsWith k d ro) (flatMap nu) (ExactlyAll Q n) (row k d n ∷ rs) ns) (times f n rs ns)
   unfolding rowsWith
-  parts-sound k d n rs ns = holds-map (Is (flatMap ro) (flatMap nu) (Counted Q n) rs ns) _ (times f n rs ns) (times-sound n rs ns) λ xs rs1 ns1 h. (rw (h .0, h .2 .1), h .1, h .2)
+  parts-sound k d n rs ns = found-map (Is (flatMap ro) (flatMap nu) (ExactlyAll Q n) rs ns) _ (times f n rs ns) (times-sound n rs ns) λ xs rs1 ns1 h. (rw (h .0, h .2 .1), h .1, h .2)
 
   as-sound : {Y : Type 0} (k d : ℕ) (c : List X → Y) (ro′ : Y → List Row) (nu′ : Y → Texts) (Q′ : Y → Type 0) → ((xs : List X) → rowsWith k d ro xs ≡ ro′ (c xs)) → ((xs : List X) → flatMap nu xs ≡ nu′ (c xs))
-      → (n : ℕ) → ((xs : List X) → Counted Q n xs → Q′ (c xs)) → (rs : List Row) (ns : Texts) → Holds (Is ro′ nu′ Q′ (row k d n ∷ rs) ns) (asA c (times f n rs ns))
+      → (n : ℕ) → ((xs : List X) → ExactlyAll Q n xs → Q′ (c xs)) → (rs : List Row) (ns : Texts) → FoundAs (Is ro′ nu′ Q′ (row k d n ∷ rs) ns) (asA c (times f n rs ns))
   as-sound k d c ro′ nu′ Q′ er en n q rs ns =
-      as-holds (Is (rowsWith k d ro) (flatMap nu) (Counted Q n) (row k d n ∷ rs) ns) _ c (times f n rs ns) (parts-sound k d n rs ns)
+      as-found (Is (rowsWith k d ro) (flatMap nu) (ExactlyAll Q n) (row k d n ∷ rs) ns) _ c (times f n rs ns) (parts-sound k d n rs ns)
       λ xs rs1 ns1 h. (rw (← er xs) (h .0), rw (← en xs) (h .1), q xs (h .2))
 
 row-sound : {X : Type 0} (k d : ℕ) (ro : X → List Row) (nu : X → Texts) (Q : X → Type 0) (f : ℕ → Finder X)
-    → ((n : ℕ) (rs : List Row) (ns : Texts) → Holds (Is ro nu Q (row k d n ∷ rs) ns) (f n rs ns)) → Sound ro nu Q (findRow k d f)
+    → ((n : ℕ) (rs : List Row) (ns : Texts) → FoundAs (Is ro nu Q (row k d n ∷ rs) ns) (f n rs ns)) → Sound ro nu Q (findRow k d f)
 unfolding findRow
 row-sound k d ro nu Q f s [] ns = tt
-row-sound k d ro nu Q f s (row k′ d′ n ∷ rs) ns =
-    either (eqb k′ k) (Holds (Is ro nu Q (row k′ d′ n ∷ rs) ns)) _ _
-    (λ a. either (eqb d′ d) (Holds (Is ro nu Q (row k′ d′ n ∷ rs) ns)) _ _ (λ b. rw (eqb-true k′ k a, eqb-true d′ d b) (s n rs ns)) λ b. tt) λ a. tt
+row-sound k d ro nu Q f s (r ∷ rs) ns =
+    either (eqb (r .kind) k) (FoundAs (Is ro nu Q (r ∷ rs) ns)) _ _
+    (λ a. either (eqb (r .dimension) d) (FoundAs (Is ro nu Q (r ∷ rs) ns)) _ _ (λ b. rw (eqb-true (r .kind) k a, eqb-true (r .dimension) d b) (s (r .parts) rs ns)) λ b. tt) λ a. tt
 
 list-sound : {X : Type 0} (k d : ℕ) (ro : X → List Row) (nu : X → Texts) (Q : X → Type 0) (f : Finder X) → Sound ro nu Q f → Sound (rowsWith k d ro) (flatMap nu) (All Q) (findRow k d (times f))
 list-sound k d ro nu Q f s =
     row-sound k d (rowsWith k d ro) (flatMap nu) (All Q) (times f)
-    λ n rs ns. holds-map (Is (rowsWith k d ro) (flatMap nu) (Counted Q n) (row k d n ∷ rs) ns) _ (times f n rs ns) (parts-sound ro nu Q f s k d n rs ns) λ xs rs1 ns1 h. (h .0, h .1, h .2 .0)
+    λ n rs ns. found-map (Is (rowsWith k d ro) (flatMap nu) (ExactlyAll Q n) (row k d n ∷ rs) ns) _ (times f n rs ns) (parts-sound ro nu Q f s k d n rs ns) λ xs rs1 ns1 h. (h .0, h .1, h .2 .0)
 
-line-sound : (d : ℕ) → Sound (lineRows d) lineTexts (LineShape d) (findLine d)
+pub line-sound : (d : ℕ) → Sound (lineRows d) lineTexts (LineShape d) (findLine d)
 line-sound d = list-sound kindLineString d noRows coordTexts (CoordShape d) (findCoord d) (coord-sound d)
 
-polygon-sound : (d : ℕ) → Sound (polygonRows d) polygonTexts (PolygonShape d) (findPolygon d)
+pub polygon-sound : (d : ℕ) → Sound (polygonRows d) polygonTexts (PolygonShape d) (findPolygon d)
 polygon-sound d = list-sound kindPolygon d (lineRows d) lineTexts (LineShape d) (findLine d) (line-sound d)
 
-one-sound : (d n : ℕ) (rs : List Row) (ns : Texts) → Holds (Is (pointRows d) coordTexts (CoordShape d) (row kindPoint d n ∷ rs) ns) (exactlyOne d n rs ns)
+one-sound : (d n : ℕ) (rs : List Row) (ns : Texts) → FoundAs (Is (pointRows d) coordTexts (CoordShape d) (row kindPoint d n ∷ rs) ns) (exactlyOne d n rs ns)
 unfolding exactlyOne rowsWith flatMap
 one-sound d n rs ns =
-    either (eqb n 1) (Holds (Is (pointRows d) coordTexts (CoordShape d) (row kindPoint d n ∷ rs) ns)) _ _
-    (λ e. holds-map (Is noRows coordTexts (CoordShape d) rs ns) _ (findCoord d rs ns) (coord-sound d rs ns) λ c rs1 ns1 h. (rw (eqb-true n 1 e, h .0), h .1, h .2)) λ e. tt
+    either (eqb n 1) (FoundAs (Is (pointRows d) coordTexts (CoordShape d) (row kindPoint d n ∷ rs) ns)) _ _
+    (λ e. found-map (Is noRows coordTexts (CoordShape d) rs ns) _ (findCoord d rs ns) (coord-sound d rs ns) λ c rs1 ns1 h. (rw (eqb-true n 1 e, h .0), h .1, h .2)) λ e. tt
 
-point-sound : (d : ℕ) → Sound (pointRows d) coordTexts (CoordShape d) (findPoint d)
+pub point-sound : (d : ℕ) → Sound (pointRows d) coordTexts (CoordShape d) (findPoint d)
 point-sound d = row-sound kindPoint d (pointRows d) coordTexts (CoordShape d) (exactlyOne d) (one-sound d)
 
 module _ {X : Type 0} (ro : X → List Row) (nu : X → Texts) (Q : X → Type 0) (f : Finder X) (s : Sound ro nu Q f) where
   abbrev At : ℕ → ℕ → ℕ → List Row → Texts → Front (Node X) → Type 0
-  At k d n rs ns = Holds (Is (nodeRows ro) (nodeTexts nu) (NodeShape Q) (row k d n ∷ rs) ns)
+  At k d n rs ns = FoundAs (Is (nodeRows ro) (nodeTexts nu) (NodeShape Q) (row k d n ∷ rs) ns)
 
   kind-sound : (k d n : ℕ) (rs : List Row) (ns : Texts) → IsDimension d → At k d n rs ns (findParts f k d n rs ns)
   unfolding findParts atMostOne
@@ -191,12 +192,12 @@ module _ {X : Type 0} (ro : X → List Row) (nu : X → Texts) (Q : X → Type 0
   node-sound : Sound (nodeRows ro) (nodeTexts nu) (NodeShape Q) (findNode f)
   unfolding findNode
   node-sound [] ns = tt
-  node-sound (row k d n ∷ rs) ns = either (leb d dimXYZM) (At k d n rs ns) _ _ (λ e. kind-sound k d n rs ns (leb-true d dimXYZM e)) λ e. tt
+  node-sound (r ∷ rs) ns = either (leb (r .dimension) dimXYZM) (At (r .kind) (r .dimension) (r .parts) rs ns) _ _ (λ e. kind-sound (r .kind) (r .dimension) (r .parts) rs ns (leb-true (r .dimension) dimXYZM e)) λ e. tt
 
 no-sound : Sound {X = ⊥} noRows noTexts NoShape findNone
 no-sound rs ns = tt
 
-tree-sound : (d : ℕ) → Sound (rows d) (texts d) (Shape d) (findTree d)
+pub tree-sound : (d : ℕ) → Sound (rows d) (texts d) (Shape d) (findTree d)
 tree-sound zero = node-sound noRows noTexts NoShape findNone no-sound
 tree-sound (suc d) = node-sound (rows d) (texts d) (Shape d) (findTree d) (tree-sound d)
 
@@ -210,8 +211,21 @@ pub trees-own : (d : ℕ) (rs : List Row) (ns : List (List ℕ)) (t : Tree d) �
 unfolding whole
 trees-own d rs ns t e = go (findTree d rs ns) (tree-sound d rs ns) e
   where
-    go : (p : Front (Tree d)) → Holds (Is (rows d) (texts d) (Shape d) rs ns) p → whole p ≡ some t → TreesOwn d rs ns t
+    go : (p : Front (Tree d)) → FoundAs (Is (rows d) (texts d) (Shape d) rs ns) p → whole p ≡ some t → TreesOwn d rs ns t
     go ill h e = let z : _≡_ {A = ℕ} 0 1 = cc in absurd (omega arith)
     go (front t′ [] []) h e = let z : t′ ≡ t = cc in let u : TreesOwn d rs ns t′ = record { its-rows = h .0 ∙ append-nil (rows d t′); its-texts = h .1 ∙ append-nil (texts d t′); shape = h .2 } in rw z at u
     go (front t′ [] (x ∷ ns′)) h e = let z : _≡_ {A = ℕ} 0 1 = cc in absurd (omega arith)
     go (front t′ (r ∷ rs′) ns′) h e = let z : _≡_ {A = ℕ} 0 1 = cc in absurd (omega arith)
+
+-- two trees are one exactly when they have the same rows and the same number texts
+pub same-tree : (d : ℕ) (t t′ : Tree d) → Shape d t → Shape d t′ → (t ≡ t′) ↔ ((rows d t ≡ rows d t′) × (texts d t ≡ texts d t′))
+same-tree d t t′ g g′ = ((λ e. (ap (rows d) e, ap (texts d) e)), λ e. one (sym (tree-in d t g) ∙ ap (λ l. treeIn d l (texts d t)) (e .0) ∙ ap (treeIn d (rows d t′)) (e .1) ∙ tree-in d t′ g′))
+  where
+    one : some t ≡ some t′ → t ≡ t′
+    one e = cc
+
+-- the texts of number rows that lie in a text are lexemes
+pub span-lexemes : (text : List ℕ) (ss : List Span) → All (SpanIn text) ss → All Lexeme (spanTexts ss)
+unfolding All
+span-lexemes text [] a = tt
+span-lexemes text (span start len x ∷ ss) a = (a .0 .lexeme, span-lexemes text ss (a .1))

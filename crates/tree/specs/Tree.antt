@@ -26,9 +26,13 @@ Tree zero = Node ⊥
 Tree (suc d) = Node (Tree d)
 
 -- ---- rows: "Nodes are rows of three u32 in preorder: kind [..], dimension [..], parts (coordinates for kinds 1 and 2, children otherwise)."
+-- the row of a node of kind k and dimension d that has the parts xs, each of which has its rows
+abbrev pub rowOver : {X : Type 0} → ℕ → ℕ → (X → List Row) → List X → Row
+rowOver k d f xs = row k d (length xs)
+
 -- the row of a node, and after it the rows of its parts
 unfoldable pub rowsWith : {X : Type 0} → ℕ → ℕ → (X → List Row) → List X → List Row
-rowsWith k d f xs = row k d (length xs) ∷ flatMap f xs
+rowsWith k d f xs = rowOver k d f xs ∷ flatMap f xs
 
 -- a coordinate has no row
 abbrev pub noRows : {X : Type 0} → X → List Row

@@ -9,7 +9,7 @@ use lib.ListN.{length, take, drop}
 use Rattle.limits.specs.Limits.{depthLimit}
 use Rattle.kinds.specs.Kinds.{kindPoint, kindLineString, kindPolygon, kindMultiPoint, kindMultiLineString, kindMultiPolygon, kindGeometryCollection, dimXYZM, width}
 use Rattle.number.specs.Lexeme.{isLexeme}
-use Rattle.store.specs.Rows.{Row, row, Span, span}
+use Rattle.store.specs.Rows.{Row, Span, span}
 use Rattle.lists.specs.Lists.{All}
 use Rattle.tree.specs.Tree.{Coord, Node, pointN, lineN, polygonN, multipointN, multilineN, multipolygonN, collectionN, Tree}
 
@@ -63,7 +63,7 @@ findCoord d = times findText (width d)
 -- a row "of the kinds named and [..] of the parent's dimension": f gets its parts
 unfoldable pub findRow : {X : Type 0} → ℕ → ℕ → (ℕ → Finder X) → Finder X
 findRow k d f [] ns = ill
-findRow k d f (row k′ d′ n ∷ rs) ns = cond (eqb k′ k) (cond (eqb d′ d) (f n rs ns) ill) ill
+findRow k d f (r ∷ rs) ns = cond (eqb (r .kind) k) (cond (eqb (r .dimension) d) (f (r .parts) rs ns) ill) ill
 
 abbrev pub findLine : ℕ → Finder (List Coord)
 findLine d = findRow kindLineString d (times (findCoord d))
@@ -96,7 +96,7 @@ findParts f k d n rs ns =
 
 unfoldable pub findNode : {X : Type 0} → Finder X → Finder (Node X)
 findNode f [] ns = ill
-findNode f (row k d n ∷ rs) ns = cond (leb d dimXYZM) (findParts f k d n rs ns) ill
+findNode f (r ∷ rs) ns = cond (leb (r .dimension) dimXYZM) (findParts f (r .kind) (r .dimension) (r .parts) rs ns) ill
 
 -- "at most 32 non-empty collections lie on a path": here at most d
 abbrev pub findTree : (d : ℕ) → Finder (Tree d)

@@ -2,4 +2,5 @@ pub mod Table
 pub mod Leads
 pub mod Followed
 pub mod Walk
-pub mod Whole
+pub mod Characters
+pub mod OneOutcome

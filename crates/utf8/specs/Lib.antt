@@ -1,4 +1,4 @@
 pub mod Utf8
 pub mod Leads
-pub mod Whole
+pub mod Characters
 pub mod Examples

@@ -1,11 +1,3 @@
-mod Ascii
-mod Tokens
-mod Marks
-mod Numbers
-mod PlainNumbers
-mod Lists
-mod Parts
-mod Heads
-mod Coords
-mod Geometries
-mod Whole
+pub mod Numbers
+pub mod Bodies
+pub mod Whole

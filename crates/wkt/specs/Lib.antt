@@ -1,4 +1,3 @@
-pub mod Seen
-pub mod Means
-pub mod Plain
+pub mod Coords
+pub mod Parts
 pub mod Whole

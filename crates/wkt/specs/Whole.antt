@@ -7,12 +7,12 @@ use Rattle.limits.specs.Limits.{depthLimit}
 use Rattle.tokenizer.specs.declared.Refusal.{Refusal}
 use Rattle.tokenizer.specs.Stream.{toks}
 use Rattle.store.specs.Rows.{nodeRoom, numberRoom, rowsIn, spansIn, flatRows, flatSpans, padded}
-use Rattle.grammar.specs.Demand.{run, answerIn}
+use Rattle.grammar.specs.Asks.{run, answerIn}
 use Rattle.grammar.specs.Grammar.{out, Got, ok, refused, halt, root}
-use Rattle.grammar.specs.Whole.{enough, reading}
-use Rattle.wkt.specs.Means.{gotOf}
-use Rattle.wkt.specs.declared.Answer.{Answer}
-use Rattle.wkt.specs.declared.Answer.the-variants.{Done, Refused, Stopped}
+use Rattle.grammar.specs.Reading.{enough, reading}
+use Rattle.answers.specs.declared.State.{State}
+use Rattle.answers.specs.declared.Answer.{Answer}
+use Rattle.answers.specs.Reading.{gotOf}
 use Rattle.wkt.specs.declared.ReadAnswer.{ReadAnswer}
 
 abbrev pub refusal : Refusal → ReadAnswer
@@ -51,10 +51,8 @@ unfoldable pub rootIn : ℕ → ℕ → List ℕ → Got
 rootIn N M text = answerIn (run (root N M enough depthLimit) (toks text 0))
 
 -- the rows used are within the slices
-abbrev pub Within : List ℕ → List ℕ → Answer → Type 0
-Within ns ms (Done q) = (q .nodes ≤ nodeRoom ns) × (q .numbers ≤ numberRoom ms)
-Within ns ms (Refused r c) = Unit {0}
-Within ns ms (Stopped r c) = Unit {0}
+abbrev pub Within : List ℕ → List ℕ → State → Type 0
+Within ns ms q = (q .nodes ≤ nodeRoom ns) × (q .numbers ≤ numberRoom ms)
 
 -- the slices as they were read into are left with the rows used, whatever the text
 pub record Finishes (got : Answer) (ns ms : List ℕ) (a : ReadAnswer) (ns′ ms′ : List ℕ) : Type 0 where

@@ -1,21 +1,27 @@
 // Line strings: `types/linestring.rs` of the Rust.
-use crate::After;
-use crate::Answer;
-use crate::Head;
-use crate::NO_NODE_ROW;
-use crate::State;
-use crate::after_part;
-use crate::closing;
-use crate::coord::coords;
-use crate::node;
-use crate::opener;
+use crate::coord::after_tokens;
+use crate::coord::pass_comma_at;
+use crate::coord::plain;
+use crate::coord::read_up_to;
+use answers::Answer;
+use answers::State;
+use answers::Verdict;
+use answers::behind;
+use answers::closing;
+use answers::fill_parts;
+use answers::is_stopped;
+use answers::node;
+use headings::Head;
+use headings::opener;
 use kinds::KIND_LINESTRING;
-use tokenizer::Refusal;
+use kinds::width_of;
 ghost use Prim.Native.Nat.{_<_};
-ghost use Rattle.wkt.specs.Means.{Fits, Reads, listOf, coordOf, lineInOf, lineOf};
+ghost use Rattle.answers.specs.Reading.{Fits, Reads, listOf};
+ghost use Rattle.wkt.specs.Parts.{coordOf, lineInOf, lineOf};
 
-// Coordinates by commas, of the line string in `row`.
-fn body(
+// Coordinates by commas, of the line string in `row`. Behind `(` and behind a comma nothing is held: from one coordinate
+// to the next a place is enough.
+pub(crate) fn coords(
     text: &[u8],
     nodes: &mut [u32],
     numbers: &mut [u32],
@@ -26,37 +32,45 @@ fn body(
     requires { ⌜ (row < s .nodes) × Fits (now text) (now nodes) (now numbers) s ⌝ }
     ensures { λ r. ⌜ Reads (now (text .entry)) (listOf row (coordOf dimension)) s (now (nodes .entry)) (now (numbers .entry)) r (now (nodes .exit)) (now (numbers .exit)) ⌝ }
 {
-    let mut here = s;
+    let width = width_of(dimension);
+    let cursor = s.cursor;
+    let mut rows = s.nodes;
+    let mut at = cursor.at;
+    let mut used = s.numbers;
     let mut parts: u32 = 0;
     loop {
-        let read = coords(text, numbers, dimension, here);
-        parts += read.parts;
-        let got = read.got;
-        match got {
-            Answer::Done(q) => {
-                parts += 1;
-                match after_part(text, q) {
-                    After::Comma(next) => {
-                        here = next;
-                    }
-                    After::Last(end) => {
-                        store::put_parts(nodes, row, parts);
-                        return Answer::Done(end);
-                    }
-                }
+        parts += 1;
+        let end = plain(text, numbers, width, at, used);
+        if at < end {
+            used += width;
+            let passed = pass_comma_at(text, end);
+            let next = passed.next;
+            if passed.comma {
+                at = next.at;
+            } else {
+                store::close_row(nodes, row, parts);
+                return read_up_to(next, rows, used);
             }
-            Answer::Refused(r, c) => {
-                return Answer::Refused(r, c);
-            }
-            Answer::Stopped(r, c) => {
-                return Answer::Stopped(r, c);
+        } else {
+            let after = after_tokens(text, numbers, dimension, at, rows, used);
+            let last = after.answer;
+            let state = last.state;
+            let verdict = last.verdict;
+            if after.more {
+                let cursor = state.cursor;
+                rows = state.nodes;
+                at = cursor.at;
+                used = state.numbers;
+            } else {
+                fill_parts(nodes, row, parts, verdict);
+                return last;
             }
         }
     }
 }
 
 // A line string whose `(` was taken at `place`.
-pub fn in_parens(
+fn in_parens(
     text: &[u8],
     nodes: &mut [u32],
     numbers: &mut [u32],
@@ -67,37 +81,19 @@ pub fn in_parens(
     requires { ⌜ Fits (now text) (now nodes) (now numbers) s ⌝ }
     ensures { λ r. ⌜ Reads (now (text .entry)) (lineInOf dimension place) s (now (nodes .entry)) (now (numbers .entry)) r (now (nodes .exit)) (now (numbers .exit)) ⌝ }
 {
-    let at = s.at;
     let row = s.nodes;
-    let used = s.numbers;
-    if row < store::node_room(nodes) {
-        store::put_node(nodes, row, KIND_LINESTRING, dimension, 0);
-        let got = body(
-            text,
-            nodes,
-            numbers,
-            row,
-            dimension,
-            State {
-                at,
-                nodes: row + 1,
-                numbers: used,
-            },
-        );
-        closing(text, got)
-    } else {
-        Answer::Stopped(
-            Refusal {
-                number: NO_NODE_ROW,
-                place,
-            },
-            at,
-        )
+    let begun = node(nodes, KIND_LINESTRING, dimension, place, s);
+    let here = begun.state;
+    let verdict = begun.verdict;
+    if is_stopped(verdict) {
+        return begun;
     }
+    let got = coords(text, nodes, numbers, row, dimension, here);
+    closing(text, got)
 }
 
 // A line string without a name: in parentheses, or EMPTY.
-pub fn with_parens(
+pub(crate) fn line(
     text: &[u8],
     nodes: &mut [u32],
     numbers: &mut [u32],
@@ -107,35 +103,27 @@ pub fn with_parens(
     requires { ⌜ Fits (now text) (now nodes) (now numbers) s ⌝ }
     ensures { λ r. ⌜ Reads (now (text .entry)) (lineOf dimension) s (now (nodes .entry)) (now (numbers .entry)) r (now (nodes .exit)) (now (numbers .exit)) ⌝ }
 {
-    let at = s.at;
     let rows = s.nodes;
     let used = s.numbers;
-    let head = opener(text, KIND_LINESTRING, dimension, at);
+    let cursor = s.cursor;
+    let head = opener(text, KIND_LINESTRING, dimension, cursor);
     match head {
-        Head::Opens(_, d, p, c) => in_parens(
+        Head::Opens(_, d, place, at) => in_parens(
             text,
             nodes,
             numbers,
             d,
-            p,
-            State {
-                at: c,
+            place,
+            behind(at, rows, used),
+        ),
+        Head::Empty(k, d, place, at) => node(nodes, k, d, place, behind(at, rows, used)),
+        Head::Wrong(r, cursor) => Answer {
+            state: State {
+                cursor,
                 nodes: rows,
                 numbers: used,
             },
-        ),
-        Head::Empty(k, d, p, c) => node(
-            text,
-            nodes,
-            k,
-            d,
-            p,
-            State {
-                at: c,
-                nodes: rows,
-                numbers: used,
-            },
-        ),
-        Head::Wrong(r, c) => Answer::Refused(r, c),
+            verdict: Verdict::Refused(r),
+        },
     }
 }

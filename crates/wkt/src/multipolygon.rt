@@ -1,19 +1,15 @@
 // Multipolygons: `types/multipolygon.rs` of the Rust.
-use crate::After;
-use crate::Answer;
-use crate::NO_NODE_ROW;
-use crate::State;
-use crate::after_part;
-use crate::closing;
-use crate::polygon;
-use kinds::KIND_MULTIPOLYGON;
-use tokenizer::Refusal;
+use crate::polygon::polygon;
+use answers::Answer;
+use answers::State;
+use answers::after_part;
+use answers::fill_parts;
 ghost use Prim.Native.Nat.{_<_};
-ghost use Rattle.kinds.specs.Kinds.{kindMultiPolygon};
-ghost use Rattle.wkt.specs.Means.{Fits, Reads, listOf, polygonOf, openedOf};
+ghost use Rattle.answers.specs.Reading.{Fits, Reads, listOf};
+ghost use Rattle.wkt.specs.Parts.{polygonOf};
 
 // Polygons by commas, of the multipolygon in `row`.
-fn body(
+pub(crate) fn polygons(
     text: &[u8],
     nodes: &mut [u32],
     numbers: &mut [u32],
@@ -27,67 +23,16 @@ fn body(
     let mut here = s;
     let mut parts: u32 = 0;
     loop {
-        let got = polygon::with_parens(text, nodes, numbers, dimension, here);
-        match got {
-            Answer::Done(q) => {
-                parts += 1;
-                match after_part(text, q) {
-                    After::Comma(next) => {
-                        here = next;
-                    }
-                    After::Last(end) => {
-                        store::put_parts(nodes, row, parts);
-                        return Answer::Done(end);
-                    }
-                }
-            }
-            Answer::Refused(r, c) => {
-                return Answer::Refused(r, c);
-            }
-            Answer::Stopped(r, c) => {
-                return Answer::Stopped(r, c);
-            }
+        let got = polygon(text, nodes, numbers, dimension, here);
+        let after = after_part(text, got);
+        let end = after.answer;
+        parts += 1;
+        if after.more {
+            here = end.state;
+        } else {
+            let verdict = end.verdict;
+            fill_parts(nodes, row, parts, verdict);
+            return end;
         }
-    }
-}
-
-// A multipolygon whose `(` was taken at `place`.
-pub fn in_parens(
-    text: &[u8],
-    nodes: &mut [u32],
-    numbers: &mut [u32],
-    dimension: u32,
-    place: usize,
-    s: State,
-) -> Answer
-    requires { ⌜ Fits (now text) (now nodes) (now numbers) s ⌝ }
-    ensures { λ r. ⌜ Reads (now (text .entry)) (openedOf kindMultiPolygon dimension place (polygonOf dimension)) s (now (nodes .entry)) (now (numbers .entry)) r (now (nodes .exit)) (now (numbers .exit)) ⌝ }
-{
-    let at = s.at;
-    let row = s.nodes;
-    let used = s.numbers;
-    if row < store::node_room(nodes) {
-        store::put_node(nodes, row, KIND_MULTIPOLYGON, dimension, 0);
-        let got = body(
-            text,
-            nodes,
-            numbers,
-            row,
-            dimension,
-            State {
-                at,
-                nodes: row + 1,
-                numbers: used,
-            },
-        );
-        closing(text, got)
-    } else {
-        Answer::Stopped(
-            Refusal {
-                number: NO_NODE_ROW,
-                place,
-            },
-            at,
-        )
     }
 }

@@ -1,18 +1,22 @@
 // Points: `types/point.rs` of the Rust.
-use crate::Answer;
-use crate::NO_NODE_ROW;
-use crate::State;
-use crate::closing;
+use crate::coord::by_tokens;
 use crate::coord::coord;
-use crate::seen;
+use answers::Answer;
+use answers::State;
+use answers::behind;
+use answers::closing;
+use answers::fill_parts;
+use answers::is_stopped;
+use answers::node;
 use kinds::KIND_POINT;
-use tokenizer::Refusal;
+use sorts::OPEN;
 ghost use Prim.Native.Nat.{_<_};
-ghost use Rattle.store.specs.Rows.{nodeRoom};
-ghost use Rattle.wkt.specs.Means.{Fits, Reads, pointBodyOf, pointInOf, barePointOf, pointOf};
+ghost use Rattle.answers.specs.Reading.{Fits, Reads};
+ghost use Rattle.wkt.specs.Coords.{Held};
+ghost use Rattle.wkt.specs.Parts.{pointBodyOf, pointInOf, barePointOf, pointOf};
 
 // The coordinate of the point in `row`.
-fn body(
+pub(crate) fn body(
     text: &[u8],
     nodes: &mut [u32],
     numbers: &mut [u32],
@@ -24,18 +28,13 @@ fn body(
     ensures { λ r. ⌜ Reads (now (text .entry)) (pointBodyOf dimension row) s (now (nodes .entry)) (now (numbers .entry)) r (now (nodes .exit)) (now (numbers .exit)) ⌝ }
 {
     let got = coord(text, numbers, dimension, s);
-    match got {
-        Answer::Done(q) => {
-            store::put_parts(nodes, row, 1);
-            Answer::Done(q)
-        }
-        Answer::Refused(r, c) => Answer::Refused(r, c),
-        Answer::Stopped(r, c) => Answer::Stopped(r, c),
-    }
+    let verdict = got.verdict;
+    fill_parts(nodes, row, 1, verdict);
+    got
 }
 
 // A point whose `(` was taken at `place`.
-pub fn in_parens(
+fn in_parens(
     text: &[u8],
     nodes: &mut [u32],
     numbers: &mut [u32],
@@ -46,36 +45,18 @@ pub fn in_parens(
     requires { ⌜ Fits (now text) (now nodes) (now numbers) s ⌝ }
     ensures { λ r. ⌜ Reads (now (text .entry)) (pointInOf dimension place) s (now (nodes .entry)) (now (numbers .entry)) r (now (nodes .exit)) (now (numbers .exit)) ⌝ }
 {
-    let at = s.at;
     let row = s.nodes;
-    let used = s.numbers;
-    if row < store::node_room(nodes) {
-        store::put_node(nodes, row, KIND_POINT, dimension, 0);
-        let got = body(
-            text,
-            nodes,
-            numbers,
-            row,
-            dimension,
-            State {
-                at,
-                nodes: row + 1,
-                numbers: used,
-            },
-        );
-        closing(text, got)
-    } else {
-        Answer::Stopped(
-            Refusal {
-                number: NO_NODE_ROW,
-                place,
-            },
-            at,
-        )
+    let begun = node(nodes, KIND_POINT, dimension, place, s);
+    let here = begun.state;
+    let verdict = begun.verdict;
+    if is_stopped(verdict) {
+        return begun;
     }
+    let got = body(text, nodes, numbers, row, dimension, here);
+    closing(text, got)
 }
 
-// A point without parentheses: its row is used before anything is known of the token at `place`.
+// A point without parentheses: its row is used before anything is known of the token at `place`, which is held.
 fn bare(
     text: &[u8],
     nodes: &mut [u32],
@@ -84,39 +65,24 @@ fn bare(
     place: usize,
     s: State,
 ) -> Answer
-    requires { ⌜ Fits (now text) (now nodes) (now numbers) s ⌝ }
+    requires { ⌜ Held (now text) (now nodes) (now numbers) s ⌝ }
     ensures { λ r. ⌜ Reads (now (text .entry)) (barePointOf dimension place) s (now (nodes .entry)) (now (numbers .entry)) r (now (nodes .exit)) (now (numbers .exit)) ⌝ }
 {
-    let at = s.at;
     let row = s.nodes;
-    let used = s.numbers;
-    if row < store::node_room(nodes) {
-        store::put_node(nodes, row, KIND_POINT, dimension, 0);
-        body(
-            text,
-            nodes,
-            numbers,
-            row,
-            dimension,
-            State {
-                at,
-                nodes: row + 1,
-                numbers: used,
-            },
-        )
-    } else {
-        Answer::Stopped(
-            Refusal {
-                number: NO_NODE_ROW,
-                place,
-            },
-            at,
-        )
+    let begun = node(nodes, KIND_POINT, dimension, place, s);
+    let here = begun.state;
+    let verdict = begun.verdict;
+    if is_stopped(verdict) {
+        return begun;
     }
+    let got = by_tokens(text, numbers, dimension, here);
+    let verdict = got.verdict;
+    fill_parts(nodes, row, 1, verdict);
+    got
 }
 
-// A point of a multipoint, in parentheses or bare.
-pub fn with_optional_parens(
+// A point of a multipoint: in parentheses, or bare where the token looked at is not `(`.
+pub(crate) fn point(
     text: &[u8],
     nodes: &mut [u32],
     numbers: &mut [u32],
@@ -126,35 +92,26 @@ pub fn with_optional_parens(
     requires { ⌜ Fits (now text) (now nodes) (now numbers) s ⌝ }
     ensures { λ r. ⌜ Reads (now (text .entry)) (pointOf dimension) s (now (nodes .entry)) (now (numbers .entry)) r (now (nodes .exit)) (now (numbers .exit)) ⌝ }
 {
-    let at = s.at;
-    let row = s.nodes;
+    let rows = s.nodes;
     let used = s.numbers;
-    let start = scan::skip_blanks(text, at);
-    if seen::stands(text, start, b'(') {
-        in_parens(
-            text,
-            nodes,
-            numbers,
-            dimension,
-            start,
-            State {
-                at: start + 1,
-                nodes: row,
-                numbers: used,
-            },
-        )
-    } else {
-        bare(
-            text,
-            nodes,
-            numbers,
-            dimension,
-            start,
-            State {
-                at: start,
-                nodes: row,
-                numbers: used,
-            },
-        )
+    let cursor = s.cursor;
+    let token = sorts::look(text, cursor);
+    let held = token.next;
+    // What is held is taken by letting it go.
+    if token.sort == OPEN {
+        let here = behind(held.at, rows, used);
+        return in_parens(text, nodes, numbers, dimension, token.place, here);
     }
+    bare(
+        text,
+        nodes,
+        numbers,
+        dimension,
+        token.place,
+        State {
+            cursor: held,
+            nodes: rows,
+            numbers: used,
+        },
+    )
 }

@@ -1,21 +1,23 @@
 // Polygons: `types/polygon.rs` of the Rust.
-use crate::After;
-use crate::Answer;
-use crate::Head;
-use crate::NO_NODE_ROW;
-use crate::State;
-use crate::after_part;
-use crate::closing;
-use crate::linestring;
-use crate::node;
-use crate::opener;
+use crate::linestring::line;
+use answers::Answer;
+use answers::State;
+use answers::Verdict;
+use answers::after_part;
+use answers::behind;
+use answers::closing;
+use answers::fill_parts;
+use answers::is_stopped;
+use answers::node;
+use headings::Head;
+use headings::opener;
 use kinds::KIND_POLYGON;
-use tokenizer::Refusal;
 ghost use Prim.Native.Nat.{_<_};
-ghost use Rattle.wkt.specs.Means.{Fits, Reads, listOf, lineOf, polygonInOf, polygonOf};
+ghost use Rattle.answers.specs.Reading.{Fits, Reads, listOf};
+ghost use Rattle.wkt.specs.Parts.{lineOf, polygonInOf, polygonOf};
 
 // Line strings by commas, of the polygon or multi line string in `row`.
-pub fn lines(
+pub(crate) fn lines(
     text: &[u8],
     nodes: &mut [u32],
     numbers: &mut [u32],
@@ -29,32 +31,22 @@ pub fn lines(
     let mut here = s;
     let mut parts: u32 = 0;
     loop {
-        let got = linestring::with_parens(text, nodes, numbers, dimension, here);
-        match got {
-            Answer::Done(q) => {
-                parts += 1;
-                match after_part(text, q) {
-                    After::Comma(next) => {
-                        here = next;
-                    }
-                    After::Last(end) => {
-                        store::put_parts(nodes, row, parts);
-                        return Answer::Done(end);
-                    }
-                }
-            }
-            Answer::Refused(r, c) => {
-                return Answer::Refused(r, c);
-            }
-            Answer::Stopped(r, c) => {
-                return Answer::Stopped(r, c);
-            }
+        let got = line(text, nodes, numbers, dimension, here);
+        let after = after_part(text, got);
+        let end = after.answer;
+        parts += 1;
+        if after.more {
+            here = end.state;
+        } else {
+            let verdict = end.verdict;
+            fill_parts(nodes, row, parts, verdict);
+            return end;
         }
     }
 }
 
 // A polygon whose `(` was taken at `place`.
-pub fn in_parens(
+fn in_parens(
     text: &[u8],
     nodes: &mut [u32],
     numbers: &mut [u32],
@@ -65,37 +57,19 @@ pub fn in_parens(
     requires { ⌜ Fits (now text) (now nodes) (now numbers) s ⌝ }
     ensures { λ r. ⌜ Reads (now (text .entry)) (polygonInOf dimension place) s (now (nodes .entry)) (now (numbers .entry)) r (now (nodes .exit)) (now (numbers .exit)) ⌝ }
 {
-    let at = s.at;
     let row = s.nodes;
-    let used = s.numbers;
-    if row < store::node_room(nodes) {
-        store::put_node(nodes, row, KIND_POLYGON, dimension, 0);
-        let got = lines(
-            text,
-            nodes,
-            numbers,
-            row,
-            dimension,
-            State {
-                at,
-                nodes: row + 1,
-                numbers: used,
-            },
-        );
-        closing(text, got)
-    } else {
-        Answer::Stopped(
-            Refusal {
-                number: NO_NODE_ROW,
-                place,
-            },
-            at,
-        )
+    let begun = node(nodes, KIND_POLYGON, dimension, place, s);
+    let here = begun.state;
+    let verdict = begun.verdict;
+    if is_stopped(verdict) {
+        return begun;
     }
+    let got = lines(text, nodes, numbers, row, dimension, here);
+    closing(text, got)
 }
 
 // A polygon without a name: in parentheses, or EMPTY.
-pub fn with_parens(
+pub(crate) fn polygon(
     text: &[u8],
     nodes: &mut [u32],
     numbers: &mut [u32],
@@ -105,35 +79,27 @@ pub fn with_parens(
     requires { ⌜ Fits (now text) (now nodes) (now numbers) s ⌝ }
     ensures { λ r. ⌜ Reads (now (text .entry)) (polygonOf dimension) s (now (nodes .entry)) (now (numbers .entry)) r (now (nodes .exit)) (now (numbers .exit)) ⌝ }
 {
-    let at = s.at;
     let rows = s.nodes;
     let used = s.numbers;
-    let head = opener(text, KIND_POLYGON, dimension, at);
+    let cursor = s.cursor;
+    let head = opener(text, KIND_POLYGON, dimension, cursor);
     match head {
-        Head::Opens(_, d, p, c) => in_parens(
+        Head::Opens(_, d, place, at) => in_parens(
             text,
             nodes,
             numbers,
             d,
-            p,
-            State {
-                at: c,
+            place,
+            behind(at, rows, used),
+        ),
+        Head::Empty(k, d, place, at) => node(nodes, k, d, place, behind(at, rows, used)),
+        Head::Wrong(r, cursor) => Answer {
+            state: State {
+                cursor,
                 nodes: rows,
                 numbers: used,
             },
-        ),
-        Head::Empty(k, d, p, c) => node(
-            text,
-            nodes,
-            k,
-            d,
-            p,
-            State {
-                at: c,
-                nodes: rows,
-                numbers: used,
-            },
-        ),
-        Head::Wrong(r, c) => Answer::Refused(r, c),
+            verdict: Verdict::Refused(r),
+        },
     }
 }

@@ -6,14 +6,19 @@ use Prim.Native.Nat.{ℕ}
 use lib.ListN.{length}
 use Rattle.store.specs.Rows.{nodeRoom, numberRoom}
 use Rattle.grammar.specs.Grammar.{Got}
-use Rattle.grammar.specs.Whole.{reading}
+use Rattle.grammar.specs.Reading.{reading}
 use Rattle.wkt.specs.declared.ReadAnswer.{ReadAnswer}
 use Rattle.wkt.specs.Whole.{Leaves, answerOf}
 use Rattle.to_wkt.specs.declared.WriteAnswer.{WriteAnswer}
-use Rattle.to_wkt.specs.Canonical.{canonical}
+use Rattle.to_wkt.specs.Canonical.{storeText}
 use Rattle.to_wkt.specs.Write as write
 use Rattle.strict.specs.declared.StrictAnswer.{StrictAnswer}
 use Rattle.infer_type.specs.declared.Inferred.{Inferred}
+use Rattle.infer_type.specs.Infer.{inferType}
+use Rattle.strict.specs.Strict.{strictOf}
+use Rattle.rooms.specs.Rooms.{enoughRows}
+use Rattle.lists.specs.One.{One}
+use Rattle.lists.proofs.One.{one}
 
 -- "The reader answers number, place, node count, number count"
 abbrev pub readPlaces : ReadAnswer → List ℕ
@@ -42,8 +47,8 @@ pub record ReadsInto (text ns ms ns′ ms′ answer : List ℕ) : Type 0 where
 
 -- the writer, in the same way
 pub record WritesInto (text nodes numbers out out′ answer : List ℕ) : Type 0 where
-  pub bytes : write.Written text nodes numbers (length out) (write.answerOf (canonical text nodes numbers) (length out)) out′
-  pub places : answer ≡ writePlaces (write.answerOf (canonical text nodes numbers) (length out))
+  pub bytes : write.Written text nodes numbers (length out) (write.answerOf (storeText text nodes numbers) (length out)) out′
+  pub places : answer ≡ writePlaces (write.answerOf (storeText text nodes numbers) (length out))
 
 -- two outcomes that the contracts allow coincide
 pub reads-one : {text ns ms ns′ ns″ ms′ ms″ answer answer′ : List ℕ} → ReadsInto text ns ms ns′ ms′ answer → ReadsInto text ns ms ns″ ms″ answer′ → (ns′ ≡ ns″) × (ms′ ≡ ms″) × (answer ≡ answer′)
@@ -51,3 +56,12 @@ reads-one x y = (x .rows .nodes ∙ sym (y .rows .nodes), x .rows .numbers ∙ s
 
 pub writes-one : {text nodes numbers out out′ out″ answer answer′ : List ℕ} → WritesInto text nodes numbers out out′ answer → WritesInto text nodes numbers out out″ answer′ → (out′ ≡ out″) × (answer ≡ answer′)
 writes-one x y = (x .bytes .bytes ∙ sym (y .bytes .bytes), x .places ∙ sym (y .places))
+
+pub stricts-one : (text nodes numbers : List ℕ) → One (λ answer. answer ≡ strictPlaces (strictOf text nodes numbers))
+stricts-one text nodes numbers = one
+
+pub infers-one : (text : List ℕ) → One (λ answer. answer ≡ inferPlaces (inferType text))
+infers-one text = one
+
+pub enough_rows-one : (bytes : ℕ) → One (λ r. r ≡ enoughRows bytes)
+enough_rows-one bytes = one

@@ -2,11 +2,20 @@
 // answer goes into four places that the caller lends, so that no struct is passed.
 ghost use mathlib.Core.Path.{_≡_};
 ghost use Rattle.wkt_c.specs.Answers.{ReadsInto, WritesInto, strictPlaces, inferPlaces};
+ghost use Rattle.rooms.specs.Rooms.{enoughRows};
 ghost use Rattle.strict.specs.Strict.{strictOf};
 ghost use Rattle.infer_type.specs.Infer.{inferType};
 
 // How many places an answer has. Those that an entry has no use for are zero.
 const ANSWER_PLACES: usize = 4;
+
+// `rooms::enough_rows`: lent so many node rows and so many number rows, `doorhollow_read` answers neither 3 nor 4.
+#[no_mangle]
+pub extern "C" fn doorhollow_enough_rows(bytes: usize) -> usize
+    ensures { λ r. ⌜ r ≡ enoughRows bytes ⌝ }
+{
+    rooms::enough_rows(bytes)
+}
 
 // `wkt::read`. The answer is number, place, node count, number count.
 #[no_mangle]

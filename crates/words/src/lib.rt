@@ -16,10 +16,13 @@ pub fn to_upper(b: u8) -> u8
     }
 }
 
-// Whether two bytes are the same but for the case of an ASCII letter. Against a fixed byte `b` two comparisons are left of it.
+// Whether two bytes are the same but for the case of an ASCII letter. Most that are the same are so without a look at their case.
 fn same_byte(a: u8, b: u8) -> bool
     ensures { λ r. ⌜ r ≡ sameByte a b ⌝ }
 {
+    if a == b {
+        return true;
+    }
     let raised = to_upper(b);
     if a == raised {
         return true;

@@ -1,11 +1,12 @@
 //! Fixed lists of records with the expected answers, for the gate to replay: the
 //! Rust's own tests, the edges of document 01, then generated texts; first under the
-//! letters of tokens, then under `r` and `i`, then stores under `w` and `s`, and records
-//! that have no answer. The order of the sections is fixed and the seed decides the rest.
+//! letters of tokens, then under `r` and `i`, then stores under `w` and `s`, whole ranges of
+//! bytes and refusals, and records that have no answer. The order of the sections is fixed and the seed decides the rest.
 
 use crate::cases::{self, Case, Letter};
 use crate::expected::expected;
 use crate::random::Random;
+use crate::range_lists;
 use crate::store_lists;
 use crate::stores;
 use crate::texts::Texts;
@@ -162,6 +163,7 @@ pub fn write(seed: u64, generated: usize, directory: &Path) -> io::Result<()> {
     cases.extend(store_lists::cases());
     cases.extend(spread(seed, Letter::Write, WRITINGS));
     cases.extend(spread(seed, Letter::Check, CHECKS));
+    cases.extend(range_lists::cases());
     let mut stream = cases::encode(&cases);
     let mut lines = answers(&cases)?;
     let bad = store_lists::bad_records();
@@ -181,7 +183,7 @@ pub fn write(seed: u64, generated: usize, directory: &Path) -> io::Result<()> {
 }
 
 /// The line for each case.
-fn answers(cases: &[Case]) -> io::Result<String> {
+pub fn answers(cases: &[Case]) -> io::Result<String> {
     thread::scope(|scope| {
         let answering = thread::Builder::new()
             .stack_size(STACK_BYTES)
@@ -193,7 +195,7 @@ fn answers(cases: &[Case]) -> io::Result<String> {
     })
 }
 
-fn tested() -> Vec<Case> {
+pub fn tested() -> Vec<Case> {
     let short = TESTED_TEXTS.iter().flat_map(|text| both(text, 0));
     let as_one = REPEATED_AS_ONE.iter().map(|unit| {
         let request = Request::Take { place: 0, count: 3 };
@@ -214,13 +216,13 @@ fn repeated(unit: &str, request: Request) -> Case {
     Case { request, text }
 }
 
-fn edges() -> Vec<Case> {
+pub fn edges() -> Vec<Case> {
     let texts = EDGES.iter().copied().chain(NUMBER_TEXTS.split(' '));
     texts.flat_map(|text| both(text, 0)).collect()
 }
 
 /// Every place of a few texts, and places past the end.
-fn places() -> Vec<Case> {
+pub fn places() -> Vec<Case> {
     let mut cases = Vec::new();
     for text in ["", " +1 \0(京, ++inf)x", "POINT Z(1 2 +3)"] {
         let characters = text.char_indices().map(|(place, _)| place);

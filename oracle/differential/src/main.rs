@@ -1,7 +1,7 @@
 //! Holds the replay program beside the Rust, and beside the model of stores where the
 //! Rust has none: makes texts from a seed, runs both on the same records and stops at
 //! the first difference, made as small as it gets. With `--list` it writes a fixed list
-//! of records and their answers instead.
+//! of records and their answers instead, and with `--tokens` the list of the program `tokens`.
 
 mod any_bytes;
 mod cases;
@@ -13,6 +13,7 @@ mod lists;
 mod model;
 mod numbers;
 mod random;
+mod range_lists;
 mod replay;
 mod report;
 mod shrink;
@@ -21,6 +22,7 @@ mod store_cases;
 mod store_lists;
 mod stores;
 mod texts;
+mod token_list;
 
 use cases::{Case, Letter};
 use check::{check, Fault, Tally};
@@ -38,7 +40,8 @@ const TEXTS_PER_RUN: usize = 20_000;
 
 const USAGE: &str =
     "usage: differential [--letters LETTERS] --replay PROGRAM [--word WORD].. SEED COUNT
-       differential --list SEED COUNT DIRECTORY";
+       differential --list SEED COUNT DIRECTORY
+       differential --tokens DIRECTORY";
 
 struct Options {
     letters: Vec<Letter>,
@@ -46,6 +49,7 @@ struct Options {
     /// What the replay program is given as arguments.
     words: Vec<String>,
     is_list: bool,
+    is_tokens: bool,
     rest: Vec<String>,
 }
 
@@ -54,6 +58,7 @@ fn options(mut arguments: impl Iterator<Item = String>) -> Option<Options> {
     let mut replay = None;
     let mut words = Vec::new();
     let mut is_list = false;
+    let mut is_tokens = false;
     let mut rest = Vec::new();
     while let Some(argument) = arguments.next() {
         match argument.as_str() {
@@ -61,6 +66,7 @@ fn options(mut arguments: impl Iterator<Item = String>) -> Option<Options> {
             "--replay" => replay = Some(PathBuf::from(arguments.next()?)),
             "--word" => words.push(arguments.next()?),
             "--list" => is_list = true,
+            "--tokens" => is_tokens = true,
             _ => rest.push(argument),
         }
     }
@@ -70,6 +76,7 @@ fn options(mut arguments: impl Iterator<Item = String>) -> Option<Options> {
         replay,
         words,
         is_list,
+        is_tokens,
         rest,
     })
 }
@@ -92,6 +99,12 @@ fn main() -> ExitCode {
 
 /// Whether all went well; `None` for arguments that mean nothing.
 fn run(options: Options) -> Option<io::Result<bool>> {
+    if options.is_tokens {
+        let [directory] = options.rest.as_slice() else {
+            return None;
+        };
+        return Some(token_list::write(directory.as_ref()).map(|()| true));
+    }
     let seed = options.rest.first()?.parse().ok()?;
     let count = options.rest.get(1)?.parse().ok()?;
     match (options.is_list, &options.rest[2..]) {

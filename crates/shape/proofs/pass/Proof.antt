@@ -1,11 +1,10 @@
--- `shape::pass` meets its contract: by whether its numbers are there, and what `close` tells.
+-- `shape::pass` meets its contract: by whether its numbers are there.
 -- Assumes nothing.
 use mathlib.Core.Path.{sym, _∙_}
-use Prim.Native.Nat.{_+_}
 use native.Mathlib.Omega.{arith}
 use borrow.Author.Needs.{needs}
-use borrow.Author.Tests.{not-true, not-false, leb-true}
-use Rattle.shape.proofs.Steps.{pass-ill, pass-on}
+use Rattle.shape.specs.Walk.{passing}
+use Rattle.shape.proofs.Frames.{sum-fits}
 use Rattle.shape.proofs.pass.Statement.{statement}
 use Rattle.shape.proofs.pass.Tie as tie
 
@@ -15,23 +14,25 @@ numbers-of-requires c κs = search needs
 has-numbers-requires : tie.Need-has-numbers-requires
 has-numbers-requires c κs = search needs
 
+add-put-next : tie.Need-add-put-next
+add-put-next c = search needs
+
+put-next-requires : tie.Need-put-next-requires
+put-next-requires c κs = search needs
+
+add-t11 : tie.Need-add-t11
+add-t11 c = search needs
+
+add-t12 : tie.Need-add-t12
+add-t12 c = record { fits = sum-fits _ _ _ _ (sym (c .before .before .before .before .before .before .has-numbers .ensures) ∙ c .before .before .before .before .before .if1 .taken) (omega arith) }
+
 returns : tie.Need-returns
-returns c = pass-ill _ _ _ _ (c .before .before .numbers-of .ensures) (sym (c .before .has-numbers .ensures) ∙ not-true _ (c .if1 .taken))
-
-close-requires : tie.Need-close-requires
-close-requires c κs = search needs
-
-ending-requires : tie.Need-ending-requires
-ending-requires c κs = search needs
-
-add-t14 : tie.Need-add-t14
-add-t14 c = search needs
-
-add-t15 : tie.Need-add-t15
-add-t15 c = let h = leb-true (c .before .before .before .before .before .before .before .before .before .args .c .number + c .before .before .before .before .before .before .before .before .numbers-of .result) (c .before .before .before .before .before .before .before .before .before .args .count) (sym (c .before .before .before .before .before .before .before .has-numbers .ensures) ∙ not-false _ (c .before .before .before .before .before .before .if1 .left)) in omega (arith, h)
+unfolding passing
+returns c = rw (← c .before .before .before .before .before .before .before .numbers-of .ensures, sym (c .before .before .before .before .before .before .has-numbers .ensures) ∙ c .before .before .before .before .before .if1 .taken, ← c .before .before .put-next .ensures)
 
 returns-2 : tie.Need-returns-2
-returns-2 c = pass-on _ _ _ _ (c .before .before .before .before .before .before .before .before .numbers-of .ensures) (sym (c .before .before .before .before .before .before .before .has-numbers .ensures) ∙ not-false _ (c .before .before .before .before .before .before .if1 .left)) _ (c .before .before .before .before .close .ensures) _ (c .before .ending .ensures)
+unfolding passing
+returns-2 c = rw (← c .before .before .numbers-of .ensures, sym (c .before .has-numbers .ensures) ∙ c .if1 .left)
 
 pub pass-spec : {M : Type 1} → statement M
 pass-spec =
@@ -39,9 +40,9 @@ pass-spec =
     (tie.spec
     numbers-of-requires
     has-numbers-requires
+    add-put-next
+    put-next-requires
+    add-t11
+    add-t12
     returns
-    close-requires
-    ending-requires
-    add-t14
-    add-t15
     returns-2)

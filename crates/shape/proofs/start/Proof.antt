@@ -1,17 +1,19 @@
 -- `shape::start` meets its contract: by computation.
 -- Assumes nothing.
-use mathlib.Core.Path.{refl}
 use borrow.Author.Needs.{needs}
-use Rattle.shape.specs.Walk.{begin}
+use Rattle.shape.specs.Walk.{beginning}
 use Rattle.shape.proofs.start.Statement.{statement}
 use Rattle.shape.proofs.start.Tie as tie
 
-sub-t2 : tie.Need-sub-t2
-sub-t2 c = search needs
+sub-top : tie.Need-sub-top
+sub-top c = search needs
+
+put-frame-requires : tie.Need-put-frame-requires
+put-frame-requires c κs = search needs
 
 returns : tie.Need-returns
-unfolding begin
-returns c = refl
+unfolding beginning
+returns c = rw (c .put-frame .ensures)
 
 pub start-spec : {M : Type 1} → statement M
-start-spec = tie.close (tie.spec sub-t2 returns)
+start-spec = tie.close (tie.spec sub-top put-frame-requires returns)

@@ -3,8 +3,8 @@
 use mathlib.Core.Path.{_≡_, refl, _∙_}
 use Prim.Native.Nat.{_-_}
 use native.Mathlib.Omega.{arith}
-use lib.ListN.{length, drop}
 use borrow.Author.Needs.{needs}
+use lib.ListN.{length, drop}
 use Rattle.strict.specs.Rules.{sameBytes}
 use Rattle.strict.proofs.Rules.{bytes-differ, bytes-on, bytes-off, bytes-end}
 use Rattle.strict.proofs.same_bytes.Statement.{statement}

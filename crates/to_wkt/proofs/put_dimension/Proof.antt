@@ -3,7 +3,7 @@
 use borrow.Author.Needs.{needs}
 use borrow.Author.Tests.{eq-eqb, ne-eqb}
 use Rattle.pen.proofs.Puts.{emits, emits-then, emits-as, owes-same}
-use Rattle.to_wkt.specs.Canonical.{putDimension, stringOf}
+use Rattle.canonical_text.specs.Canonical.{putDimension, stringOf}
 use Rattle.to_wkt.proofs.Canonical.{no-ending}
 use Rattle.to_wkt.proofs.put_dimension.Statement.{statement}
 use Rattle.to_wkt.proofs.put_dimension.Tie as tie

@@ -2,7 +2,8 @@
 -- Assumes nothing.
 use borrow.Author.Needs.{needs}
 use Rattle.pen.proofs.Puts.{emits, emits-as, owes-same}
-use Rattle.to_wkt.specs.Canonical.{putName, stringOf}
+use Rattle.canonical_text.specs.Canonical.{stringOf}
+use Rattle.to_wkt.specs.Canonical.{putName}
 use Rattle.to_wkt.proofs.Canonical.{no-name}
 use Rattle.to_wkt.proofs.put_name.Statement.{statement}
 use Rattle.to_wkt.proofs.put_name.Tie as tie

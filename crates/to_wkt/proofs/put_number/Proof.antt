@@ -1,4 +1,4 @@
--- `to_wkt::put_number` meets its contract: the number's text, with the plus or without.
+-- `to_wkt::put_number` meets its contract: the byte before it, and the number's text, with the plus or without.
 -- Assumes nothing.
 use borrow.Author.Needs.{needs}
 use Rattle.pen.proofs.Puts.{emits, emits-then, emits-as}
@@ -15,23 +15,23 @@ needs-plus-requires c κs = search needs
 put-byte-requires : tie.Need-put-byte-requires
 put-byte-requires c κs = search needs
 
-put-requires : tie.Need-put-requires
-put-requires c κs = search needs
+put-led-requires : tie.Need-put-led-requires
+put-led-requires c κs = search needs
 
 same-length : tie.Need-same-length
 same-length c = search needs
 
 returns : tie.Need-returns
-returns c = emits-as (emits-then (emits (c .before .before .before .before .before .before .put-byte .ensures)) (emits (c .before .before .put .ensures))) (number-plus _ _ _ (c .before .before .before .before .before .before .before .before .before .before .number-text .ensures) (c .before .before .before .before .before .before .before .before .before .needs-plus .ensures) (c .before .before .before .before .before .before .before .before .if1 .taken))
+returns c = emits-as (emits-then (emits (c .before .before .before .before .before .before .put-byte .ensures)) (emits (c .before .before .put-led .ensures))) (number-plus _ _ _ _ (c .before .before .before .before .before .before .before .before .before .before .number-text .ensures) (c .before .before .before .before .before .before .before .before .before .needs-plus .ensures) (c .before .before .before .before .before .before .before .before .if1 .taken))
 
-put-requires-2 : tie.Need-put-requires-2
-put-requires-2 c κs = search needs
+put-led-requires-2 : tie.Need-put-led-requires-2
+put-led-requires-2 c κs = search needs
 
 same-length-2 : tie.Need-same-length-2
 same-length-2 c = search needs
 
 returns-2 : tie.Need-returns-2
-returns-2 c = emits-as (emits (c .before .before .put2 .ensures)) (number-bare _ _ _ (c .before .before .before .before .before .before .number-text .ensures) (c .before .before .before .before .before .needs-plus .ensures) (c .before .before .before .before .if1 .left))
+returns-2 c = emits-as (emits (c .before .before .put-led2 .ensures)) (number-bare _ _ _ _ (c .before .before .before .before .before .before .number-text .ensures) (c .before .before .before .before .before .needs-plus .ensures) (c .before .before .before .before .if1 .left))
 
 pub put-number-spec : {M : Type 1} → statement M
 put-number-spec =
@@ -40,9 +40,9 @@ put-number-spec =
     number-text-requires
     needs-plus-requires
     put-byte-requires
-    put-requires
+    put-led-requires
     same-length
     returns
-    put-requires-2
+    put-led-requires-2
     same-length-2
     returns-2)

@@ -21,8 +21,8 @@ new-requires c κs = search needs
 loop-holds : tie.Need-loop-holds Inv-loop μ-loop
 loop-holds c = ap (nthFrom _ _) (c .new .ensures)
 
-step-from-requires : tie.Need-step-from-requires Inv-loop μ-loop
-step-from-requires c κs = search needs
+take-from-requires : tie.Need-take-from-requires Inv-loop μ-loop
+take-from-requires c κs = search needs
 
 sub-left : tie.Need-sub-left Inv-loop μ-loop
 sub-left c = search needs
@@ -31,13 +31,13 @@ loop-less : tie.Need-loop-less Inv-loop μ-loop
 loop-less c = search needs
 
 loop-again : tie.Need-loop-again Inv-loop μ-loop
-loop-again c = nth-on _ _ _ _ (c .before .step-from .ensures) (search needs) ∙ c .before .before .before .loop .inv
+loop-again c = nth-on _ _ _ _ (c .before .take-from .ensures) (search needs) ∙ c .before .before .before .loop .inv
 
-step-from-requires-2 : tie.Need-step-from-requires-2 Inv-loop μ-loop
-step-from-requires-2 c κs = search needs
+take-from-requires-2 : tie.Need-take-from-requires-2 Inv-loop μ-loop
+take-from-requires-2 c κs = search needs
 
 returns : tie.Need-returns Inv-loop μ-loop
-returns c = nth-here _ _ _ _ (c .step-from2 .ensures) (search needs) ∙ c .before .before .loop .inv
+returns c = nth-here _ _ _ _ (c .take-from2 .ensures) (search needs) ∙ c .before .before .loop .inv
 
 pub nth-spec : {M : Type 1} → statement M
 nth-spec =
@@ -47,9 +47,9 @@ nth-spec =
     μ-loop
     new-requires
     loop-holds
-    step-from-requires
+    take-from-requires
     sub-left
     loop-less
     loop-again
-    step-from-requires-2
+    take-from-requires-2
     returns)

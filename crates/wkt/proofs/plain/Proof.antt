@@ -3,76 +3,51 @@
 use borrow.Author.Needs.{needs}
 use Rattle.wkt.proofs.plain.Statement.{statement}
 use Rattle.wkt.proofs.plain.Tie as tie
-use native.Mathlib.Omega.{arith}
-use Rattle.wkt.proofs.Geometries.{plain-point, plain-line, plain-polygon, plain-multi}
+use mathlib.Core.Path.{sym, _∙_}
+use Rattle.wkt.specs.Parts.{bodyOf}
+use Rattle.wkt.proofs.Bodies.{body-fits, opened-full, opened-done, as-plain}
 
-in-parens-requires : tie.Need-in-parens-requires
-in-parens-requires c κs = search needs
+plain-kind-requires : tie.Need-plain-kind-requires
+plain-kind-requires c κs = search needs
 
-in-parens-requires-2 : tie.Need-in-parens-requires-2
-in-parens-requires-2 c κs = search needs
+node-requires : tie.Need-node-requires
+node-requires c κs = search needs
 
-in-parens-requires-3 : tie.Need-in-parens-requires-3
-in-parens-requires-3 c κs = search needs
-
-multi-requires : tie.Need-multi-requires
-multi-requires c κs = search needs
+is-stopped-requires : tie.Need-is-stopped-requires
+is-stopped-requires c κs = search needs
 
 same-length : tie.Need-same-length
 same-length c = search needs
 
+returns : tie.Need-returns
+returns c = as-plain _ _ _ (c .before .before .before .before .before .before .before .plain-kind .ensures) (opened-full _ (c .before .before .before .before .before .node .ensures .0) _ _ (bodyOf _ _) (c .before .before .before .before .before .before .before .before .before .before .before .pre .room) (sym (c .before .is-stopped .ensures) ∙ c .if1 .taken))
+
+body-requires : tie.Need-body-requires
+body-requires c κs = body-fits _ (c .before .before .before .before .before .before .before .node .ensures .0) (sym (c .before .before .before .is-stopped .ensures) ∙ c .before .before .if1 .left) (c .before .before .before .before .before .before .before .node .kept .0) (c .before .before .before .before .before .before .before .before .before .before .before .before .before .pre)
+
+closing-requires : tie.Need-closing-requires
+closing-requires c κs = search needs
+
 same-length-2 : tie.Need-same-length-2
 same-length-2 c = search needs
-
-returns : tie.Need-returns
-returns c = plain-point _ _ _ (c .before .before .before .before .before .before .before .match .keys1) (c .before .before .before .before .in-parens .ensures)
 
 same-length-3 : tie.Need-same-length-3
 same-length-3 c = search needs
 
-same-length-4 : tie.Need-same-length-4
-same-length-4 c = search needs
-
 returns-2 : tie.Need-returns-2
-returns-2 c = plain-line _ _ _ (λ e. omega (arith, c .before .before .before .before .before .before .before .match .keys2)) (c .before .before .before .before .before .before .before .match .keys2) (c .before .before .before .before .in-parens2 .ensures)
-
-same-length-5 : tie.Need-same-length-5
-same-length-5 c = search needs
-
-same-length-6 : tie.Need-same-length-6
-same-length-6 c = search needs
-
-returns-3 : tie.Need-returns-3
-returns-3 c =
-    plain-polygon _ _ _ (λ e. omega (arith, c .before .before .before .before .before .before .before .match .keys3)) (λ e. omega (arith, c .before .before .before .before .before .before .before .match .keys3)) (c .before .before .before .before .before .before .before .match .keys3) (c .before .before .before .before .in-parens3 .ensures)
-
-same-length-7 : tie.Need-same-length-7
-same-length-7 c = search needs
-
-same-length-8 : tie.Need-same-length-8
-same-length-8 c = search needs
-
-returns-4 : tie.Need-returns-4
-returns-4 c =
-    plain-multi _ _ _ (c .before .before .before .before .before .before .before .match .rest .0 .0 .1) (c .before .before .before .before .before .before .before .match .rest .0 .1) (c .before .before .before .before .before .before .before .match .rest .1) (c .before .before .before .before .multi .ensures)
+returns-2 c = as-plain _ _ _ (c .before .before .before .before .before .before .before .before .before .before .before .before .before .before .before .plain-kind .ensures) (opened-done _ (c .before .before .before .before .before .before .before .before .before .before .before .before .before .node .ensures .0) _ _ (bodyOf _ _) (sym (c .before .before .before .before .before .before .before .before .before .is-stopped .ensures) ∙ c .before .before .before .before .before .before .before .before .if1 .left) (c .before .before .before .before .before .before .before .before .before .before .before .before .before .node .ensures .1) (c .before .before .before .before .before .before .before .before .before .before .before .before .before .node .kept .0) (c .before .before .before .before .before .body .ensures) (c .closing .ensures))
 
 pub plain-spec : {M : Type 1} → statement M
 plain-spec =
     tie.close
     (tie.spec
-    in-parens-requires
-    in-parens-requires-2
-    in-parens-requires-3
-    multi-requires
+    plain-kind-requires
+    node-requires
+    is-stopped-requires
     same-length
-    same-length-2
     returns
+    body-requires
+    closing-requires
+    same-length-2
     same-length-3
-    same-length-4
-    returns-2
-    same-length-5
-    same-length-6
-    returns-3
-    same-length-7
-    same-length-8
-    returns-4)
+    returns-2)

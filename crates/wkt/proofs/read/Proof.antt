@@ -4,9 +4,9 @@ use borrow.Author.Needs.{needs}
 use Rattle.wkt.proofs.read.Statement.{statement}
 use Rattle.wkt.proofs.read.Tie as tie
 use mathlib.Core.Path.{sym, _∙_}
+use lib.ListN.{length}
 use native.Mathlib.Omega.{arith}
 use borrow.Author.Tests.{ltb-false}
-use lib.ListN.{length}
 use Rattle.limits.specs.Limits.{textLimit}
 use Rattle.wkt.proofs.Whole.{read-long, read-ill, read-tokens}
 
@@ -38,8 +38,7 @@ same-length-4 : tie.Need-same-length-4
 same-length-4 c = search needs
 
 returns-2 : tie.Need-returns-2
-returns-2 c =
-    read-ill (c .before .before .before .before .before .before .before .before .before .before .before .before .before .before .args .text .now) (sym (c .before .before .before .before .before .before .before .before .before .before .is-over .ensures) ∙ c .before .before .before .before .before .before .before .before .before .if1 .left) (rw (c .before .before .before .before .before .before .before .before .first-ill-formed .ensures) at (c .before .before .before .before .before .before .before .if2 .taken)) (rw (c .before .before .before .before .before .before .before .before .first-ill-formed .ensures) at (c .before .before .before .before .refuse2 .ensures))
+returns-2 c = read-ill (c .before .before .before .before .before .before .before .before .before .before .before .before .before .before .args .text .now) (sym (c .before .before .before .before .before .before .before .before .before .before .is-over .ensures) ∙ c .before .before .before .before .before .before .before .before .before .if1 .left) (rw (c .before .before .before .before .before .before .before .before .first-ill-formed .ensures) at (c .before .before .before .before .before .before .before .if2 .taken)) (rw (c .before .before .before .before .before .before .before .before .first-ill-formed .ensures) at (c .before .before .before .before .refuse2 .ensures))
 
 read-root-requires : tie.Need-read-root-requires
 read-root-requires c κs = omega (arith, ltb-false textLimit (length (c .before .before .before .before .before .before .before .before .before .args .text .now)) (sym (c .before .before .before .before .before .is-over .ensures) ∙ c .before .before .before .before .if1 .left))
@@ -51,8 +50,7 @@ same-length-6 : tie.Need-same-length-6
 same-length-6 c = search needs
 
 returns-3 : tie.Need-returns-3
-returns-3 c =
-    read-tokens (c .before .before .before .before .before .before .before .before .before .before .before .before .before .before .args .text .now) (sym (c .before .before .before .before .before .before .before .before .before .before .is-over .ensures) ∙ c .before .before .before .before .before .before .before .before .before .if1 .left) (rw (c .before .before .before .before .before .before .before .before .first-ill-formed .ensures) at (c .before .before .before .before .before .before .before .if2 .left)) (c .before .before .before .before .read-root .ensures)
+returns-3 c = read-tokens (c .before .before .before .before .before .before .before .before .before .before .before .before .before .before .args .text .now) (sym (c .before .before .before .before .before .before .before .before .before .before .is-over .ensures) ∙ c .before .before .before .before .before .before .before .before .before .if1 .left) (rw (c .before .before .before .before .before .before .before .before .first-ill-formed .ensures) at (c .before .before .before .before .before .before .before .if2 .left)) (c .before .before .before .before .read-root .ensures)
 
 pub read-spec : {M : Type 1} → statement M
 read-spec =

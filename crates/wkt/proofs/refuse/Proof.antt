@@ -19,9 +19,14 @@ same-length-2 : tie.Need-same-length-2
 same-length-2 c = search needs
 
 returns : tie.Need-returns
-returns c =
-    record { answer = refl; nodes = c .before .before .before .before .before .before .clear .ensures ∙ cleared-all _; numbers = c .before .before .clear2 .ensures ∙ cleared-all _ }
+returns c = record { answer = refl; nodes = c .before .before .before .before .before .before .clear .ensures ∙ cleared-all _; numbers = c .before .before .clear2 .ensures ∙ cleared-all _ }
 
 pub refuse-spec : {M : Type 1} → statement M
 refuse-spec =
-    tie.close (tie.spec clear-requires clear-requires-2 same-length same-length-2 returns)
+    tie.close
+    (tie.spec
+    clear-requires
+    clear-requires-2
+    same-length
+    same-length-2
+    returns)

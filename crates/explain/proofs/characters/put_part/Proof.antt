@@ -1,22 +1,26 @@
--- `put_part` is safe and ends: each character begins behind the one before it.
+-- `put_part` meets its contract. The loop's invariant: putting what is left of the pieces gives what putting all of them gives.
 -- Assumes nothing.
 use borrow.Author.Needs.{needs}
 use Rattle.explain.proofs.characters.put_part.Statement.{statement}
 use Rattle.explain.proofs.characters.put_part.Tie as tie
-use mathlib.Core.Path.{_≡_}
+use mathlib.Core.Path.{_≡_, refl}
 use Prim.Native.Nat.{_≤_, _-_}
 use native.Mathlib.Omega.{arith}
+use denote.Ref.{now}
 use lib.ListN.{length}
+use Rattle.printing.specs.Printing.{buffer, putAllIn}
+use Rattle.explain.specs.Shown.{piecesFrom, pieces}
 use Rattle.explain.proofs.Turns.{next-after, next-within}
+use Rattle.explain.proofs.ShownLaws.{part-start, part-on, part-end}
 
 abbrev Inv-loop : tie.InvT-loop
-Inv-loop out₀ at part under end₀ i₀ out end i = (length out ≡ length out₀) × (i ≤ length part)
+Inv-loop out₀ at part under end₀ i₀ out end i = (length out ≡ length out₀) × (i ≤ length part) × (putAllIn (piecesFrom (length part - i) under part i) (buffer out end) ≡ putAllIn (pieces under part) (buffer out₀ at))
 
 abbrev μ-loop : tie.MeasureT-loop
 μ-loop out₀ at part under end₀ i₀ out end i = length part - i
 
 loop-holds : tie.Need-loop-holds Inv-loop μ-loop
-loop-holds c = search needs
+loop-holds c = let given = c .before .before .args in (refl, omega arith, part-start (given .under) (now (given .part)) 0 (buffer (now (given .out)) (given .at)))
 
 add-next-begin : tie.Need-add-next-begin Inv-loop μ-loop
 add-next-begin c = search needs
@@ -33,8 +37,8 @@ part-bytes-start c = omega (arith, next-after _ _ _ (search needs) (c .next-begi
 part-bytes-end : tie.Need-part-bytes-end Inv-loop μ-loop
 part-bytes-end c = omega (arith, next-within _ _ _ (c .next-begin .ensures .0))
 
-put-for-requires : tie.Need-put-for-requires Inv-loop μ-loop
-put-for-requires c κs = search needs
+shown-for-requires : tie.Need-shown-for-requires Inv-loop μ-loop
+shown-for-requires c κs = search needs
 
 put-one-requires : tie.Need-put-one-requires Inv-loop μ-loop
 put-one-requires c κs = search needs
@@ -43,13 +47,13 @@ loop-less : tie.Need-loop-less Inv-loop μ-loop
 loop-less c = omega (arith, next-after _ _ _ (search needs) (c .before .before .before .before .before .before .next-begin .ensures .0), next-within _ _ _ (c .before .before .before .before .before .before .next-begin .ensures .0))
 
 loop-again : tie.Need-loop-again Inv-loop μ-loop
-loop-again c = (search needs, next-within _ _ _ (c .before .before .before .before .before .before .next-begin .ensures .0))
+loop-again c = (search needs, next-within _ _ _ (c .before .before .before .before .before .before .next-begin .ensures .0), part-on _ _ _ _ (c .before .before .before .before .before .before .before .loop-test .taken) (c .before .before .before .before .before .before .next-begin .ensures .0) (c .before .before .before .shown-for .ensures) (c .before .before .put-one .ensures) (c .before .before .before .before .before .before .before .before .loop .inv .2))
 
 same-length : tie.Need-same-length Inv-loop μ-loop
-same-length c = search needs
+same-length c = c .before .loop .inv .0
 
 returns : tie.Need-returns Inv-loop μ-loop
-returns c = search needs
+returns c = part-end (c .before .before .before .before .args .under) (now (c .before .before .before .before .args .part)) _ _ (omega arith) (c .before .loop .inv .2)
 
 pub put-part-spec : {M : Type 1} → statement M
 put-part-spec =
@@ -63,7 +67,7 @@ put-part-spec =
     sub-bytes
     part-bytes-start
     part-bytes-end
-    put-for-requires
+    shown-for-requires
     put-one-requires
     loop-less
     loop-again

@@ -1,28 +1,32 @@
--- `line_at` is safe and ends: the bytes that are left get fewer.
+-- `line_at` meets its contract. The loop's invariant: from here on as many lines are left to pass.
 -- Assumes nothing.
 use borrow.Author.Needs.{needs}
 use Rattle.explain.proofs.lines.line_at.Statement.{statement}
 use Rattle.explain.proofs.lines.line_at.Tie as tie
-use Prim.Native.Nat.{_≤_, _-_}
-use lib.ListN.{length}
+use mathlib.Core.Path.{_≡_}
+use Prim.Native.Nat.{_≤_, _+_, _-_}
+use native.Mathlib.Omega.{arith}
+use lib.ListN.{length, drop}
+use Rattle.explain.specs.Lines.{lineFrom}
+use Rattle.explain.proofs.Turns.{line-here, line-past, line-on}
 
 abbrev Inv-loop : tie.InvT-loop
-Inv-loop text number left₀ i₀ left i = i ≤ length text
+Inv-loop text number left₀ i₀ left i = (i ≤ length text) × (i + lineFrom (drop i text) left ≡ lineFrom text number)
 
 abbrev μ-loop : tie.MeasureT-loop
 μ-loop text number left₀ i₀ left i = length text - i
 
 loop-holds : tie.Need-loop-holds Inv-loop μ-loop
-loop-holds c = search needs
+loop-holds c = (omega arith, omega arith)
 
 returns : tie.Need-returns Inv-loop μ-loop
-returns c = search needs
+returns c = (line-here _ _ _ _ (c .before .before .loop .inv .1) (c .before .loop-test .taken) (c .if1 .taken), c .before .before .loop .inv .0)
 
-shared-slice-read-is-break : tie.Need-shared-slice-read-is-break Inv-loop μ-loop
-shared-slice-read-is-break c = search needs
+shared-slice-read-breaks : tie.Need-shared-slice-read-breaks Inv-loop μ-loop
+shared-slice-read-breaks c = search needs
 
-is-break-requires : tie.Need-is-break-requires Inv-loop μ-loop
-is-break-requires c κs = search needs
+breaks-requires : tie.Need-breaks-requires Inv-loop μ-loop
+breaks-requires c κs = search needs
 
 sub-left : tie.Need-sub-left Inv-loop μ-loop
 sub-left c = search needs
@@ -34,10 +38,10 @@ loop-less : tie.Need-loop-less Inv-loop μ-loop
 loop-less c = search needs
 
 loop-again : tie.Need-loop-again Inv-loop μ-loop
-loop-again c = search needs
+loop-again c = (omega arith, line-on _ _ _ _ _ (c .before .before .before .loop-test .taken) (c .before .before .if1 .left) (c .breaks .ensures .0) (c .before .before .before .before .loop .inv .1))
 
 returns-2 : tie.Need-returns-2 Inv-loop μ-loop
-returns-2 c = search needs
+returns-2 c = (line-past _ _ _ _ (c .before .loop .inv .1) (c .loop-test .left), c .before .loop .inv .0)
 
 pub line-at-spec : {M : Type 1} → statement M
 line-at-spec =
@@ -47,8 +51,8 @@ line-at-spec =
     μ-loop
     loop-holds
     returns
-    shared-slice-read-is-break
-    is-break-requires
+    shared-slice-read-breaks
+    breaks-requires
     sub-left
     add-i
     loop-less

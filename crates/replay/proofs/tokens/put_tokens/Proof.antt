@@ -7,19 +7,19 @@ use Rattle.replay.proofs.tokens.put_tokens.Statement.{statement}
 use Rattle.replay.proofs.tokens.put_tokens.Tie as tie
 
 abbrev Inv-loop : tie.InvT-loop
-Inv-loop text count demand out₀ at cursor₀ left₀ end₀ out cursor left end = length out ≡ length out₀
+Inv-loop text count asking out₀ at cursor₀ left₀ end₀ out cursor left end = length out ≡ length out₀
 
 abbrev μ-loop : tie.MeasureT-loop
-μ-loop text count demand out₀ at cursor₀ left₀ end₀ out cursor left end = left
+μ-loop text count asking out₀ at cursor₀ left₀ end₀ out cursor left end = left
 
 loop-holds : tie.Need-loop-holds Inv-loop μ-loop
 loop-holds c = search needs
 
-demand-one-requires : tie.Need-demand-one-requires Inv-loop μ-loop
-demand-one-requires c κs = search needs
+ask-one-requires : tie.Need-ask-one-requires Inv-loop μ-loop
+ask-one-requires c κs = search needs
 
-put-demanded-requires : tie.Need-put-demanded-requires Inv-loop μ-loop
-put-demanded-requires c κs = search needs
+put-asked-requires : tie.Need-put-asked-requires Inv-loop μ-loop
+put-asked-requires c κs = search needs
 
 sub-left : tie.Need-sub-left Inv-loop μ-loop
 sub-left c = search needs
@@ -52,8 +52,8 @@ put-tokens-spec =
     Inv-loop
     μ-loop
     loop-holds
-    demand-one-requires
-    put-demanded-requires
+    ask-one-requires
+    put-asked-requires
     sub-left
     put-space-requires
     loop-less

@@ -3,34 +3,31 @@
 use borrow.Author.Needs.{needs}
 use Rattle.wkt.proofs.coord.by_tokens.Statement.{statement}
 use Rattle.wkt.proofs.coord.by_tokens.Tie as tie
-use Rattle.wkt.proofs.Numbers.{fine-x, fine-y, fine-z, coord-is}
+use Rattle.wkt.proofs.Numbers.{ready-x, ready-y, ready-z, coord-is}
 
 number-requires : tie.Need-number-requires
-number-requires c κs = search needs
+number-requires c κs = c .before .before .before .pre
 
 then-number-requires : tie.Need-then-number-requires
-then-number-requires c κs = fine-x (c .before .before .before .number .ensures) (c .before .before .before .number .kept .1 .0)
+then-number-requires c κs = ready-x (c .before .before .before .number .ensures) (c .before .before .before .number .kept .1 .0)
 
 has-z-requires : tie.Need-has-z-requires
 has-z-requires c κs = search needs
 
-if-asked-requires : tie.Need-if-asked-requires
-if-asked-requires c κs =
-    fine-y (c .before .before .before .before .before .before .before .before .number .ensures) (c .before .before .before .before .before .before .before .before .number .kept .1 .0) (c .before .before .before .before .then-number .ensures) (c .before .before .before .before .then-number .kept .1 .0)
+then-number-requires-2 : tie.Need-then-number-requires-2
+then-number-requires-2 c κs = ready-y (c .before .before .before .before .before .before .before .before .number .ensures) (c .before .before .before .before .before .before .before .before .number .kept .1 .0) (c .before .before .before .before .then-number .ensures) (c .before .before .before .before .then-number .kept .1 .0)
 
 has-m-requires : tie.Need-has-m-requires
 has-m-requires c κs = search needs
 
-if-asked-requires-2 : tie.Need-if-asked-requires-2
-if-asked-requires-2 c κs =
-    fine-z (c .before .before .before .before .before .before .before .before .before .before .before .before .before .number .ensures) (c .before .before .before .before .before .before .before .before .before .before .before .before .before .number .kept .1 .0) (c .before .before .before .before .before .before .before .before .before .then-number .ensures) (c .before .before .before .before .before .before .before .before .before .then-number .kept .1 .0) (c .before .before .before .before .before .before .before .before .before .before .before .before .before .before .before .before .before .args .dimension) (rw (c .before .before .before .before .before .has-z .ensures) at (c .before .before .before .before .if-asked .ensures)) (c .before .before .before .before .if-asked .kept .1 .0)
+then-number-requires-3 : tie.Need-then-number-requires-3
+then-number-requires-3 c κs = ready-z (c .before .before .before .before .before .before .before .before .before .before .before .before .before .number .ensures) (c .before .before .before .before .before .before .before .before .before .before .before .before .before .number .kept .1 .0) (c .before .before .before .before .before .before .before .before .before .then-number .ensures) (c .before .before .before .before .before .before .before .before .before .then-number .kept .1 .0) (c .before .before .before .before .before .before .before .before .before .before .before .before .before .before .before .before .before .args .dimension) (rw (c .before .before .before .before .before .has-z .ensures) at (c .before .before .before .before .then-number2 .ensures)) (c .before .before .before .before .then-number2 .kept .1 .0)
 
 same-length : tie.Need-same-length
 same-length c = search needs
 
 returns : tie.Need-returns
-returns c =
-    coord-is (c .before .before .before .before .before .before .before .before .before .before .before .before .before .before .before .before .number .ensures) (c .before .before .before .before .before .before .before .before .before .before .before .before .before .before .before .before .number .kept .1 .0) (c .before .before .before .before .before .before .before .before .before .before .before .before .then-number .ensures) (c .before .before .before .before .before .before .before .before .before .before .before .before .then-number .kept .1 .0) _ (rw (c .before .before .before .before .before .before .before .before .has-z .ensures) at (c .before .before .before .before .before .before .before .if-asked .ensures)) (c .before .before .before .before .before .before .before .if-asked .kept .1 .0) (rw (c .before .before .before .has-m .ensures) at (c .before .before .if-asked2 .ensures))
+returns c = coord-is (c .before .before .before .before .before .before .before .before .before .before .before .before .before .before .before .before .number .ensures) (c .before .before .before .before .before .before .before .before .before .before .before .before .before .before .before .before .number .kept .1 .0) (c .before .before .before .before .before .before .before .before .before .before .before .before .then-number .ensures) (c .before .before .before .before .before .before .before .before .before .before .before .before .then-number .kept .1 .0) (c .before .before .before .before .before .before .before .before .before .before .before .before .before .before .before .before .before .before .before .before .args .dimension) (rw (c .before .before .before .before .before .before .before .before .has-z .ensures) at (c .before .before .before .before .before .before .before .then-number2 .ensures)) (c .before .before .before .before .before .before .before .then-number2 .kept .1 .0) (rw (c .before .before .before .has-m .ensures) at (c .before .before .then-number3 .ensures))
 
 pub by-tokens-spec : {M : Type 1} → statement M
 by-tokens-spec =
@@ -39,8 +36,8 @@ by-tokens-spec =
     number-requires
     then-number-requires
     has-z-requires
-    if-asked-requires
+    then-number-requires-2
     has-m-requires
-    if-asked-requires-2
+    then-number-requires-3
     same-length
     returns)

@@ -3,41 +3,31 @@
 use borrow.Author.Needs.{needs}
 use Rattle.wkt.proofs.coord.then_number.Statement.{statement}
 use Rattle.wkt.proofs.coord.then_number.Tie as tie
-use Rattle.wkt.proofs.Numbers.{then-done, then-refused, then-stopped}
+use mathlib.Core.Path.{sym, _∙_}
+use Rattle.lists.proofs.Cases.{and-both}
+use Rattle.wkt.proofs.Numbers.{on-number, on-prior}
 
-enum-known-prior : tie.Need-enum-known-prior
-enum-known-prior c = search needs
+is-read-requires : tie.Need-is-read-requires
+is-read-requires c κs = search needs
 
 number-requires : tie.Need-number-requires
-number-requires c κs = rw (c .before .before .prior .given .1) at (c .before .before .before .before .before .before .pre)
-
-enum-known-prior-2 : tie.Need-enum-known-prior-2
-enum-known-prior-2 c = search needs
-
-enum-known-prior-3 : tie.Need-enum-known-prior-3
-enum-known-prior-3 c = search needs
+number-requires c κs = c .before .before .before .before .before .before .pre
 
 same-length : tie.Need-same-length
 same-length c = search needs
 
 returns : tie.Need-returns
-returns c = then-done _ (c .before .before .before .before .before .prior .given .1) (c .before .before .number .ensures)
+returns c = let y = and-both _ _ (rw (c .before .before .before .before .before .is-read .ensures) at (c .before .before .before .before .if1 .taken)) in on-number _ (y .0) (y .1) (c .before .before .number .ensures)
 
 returns-2 : tie.Need-returns-2
-returns-2 c = then-refused _ (c .before .prior2 .given .1)
-
-returns-3 : tie.Need-returns-3
-returns-3 c = then-stopped _ (c .before .prior3 .given .1)
+returns-2 c = on-prior _ _ (rw (c .before .is-read .ensures) at (c .if1 .left)) (c .before .before .before .before .before .pre .sound)
 
 pub then-number-spec : {M : Type 1} → statement M
 then-number-spec =
     tie.close
     (tie.spec
-    enum-known-prior
+    is-read-requires
     number-requires
-    enum-known-prior-2
-    enum-known-prior-3
     same-length
     returns
-    returns-2
-    returns-3)
+    returns-2)

@@ -1,86 +1,49 @@
 -- `wkt::polygon::lines` meets its contract.
 -- Assumes nothing.
+use borrow.Author.Needs.{needs}
 use Rattle.wkt.proofs.polygon.lines.Statement.{statement}
 use Rattle.wkt.proofs.polygon.lines.Tie as tie
 use mathlib.Core.Path.{_∙_}
-use borrow.Author.Needs.{needs}
 use native.Mathlib.Omega.{arith}
-use Rattle.tokenizer.specs.Stream.{size, toks}
-use Rattle.wkt.specs.Means.{lineOf}
-use Rattle.wkt.proofs.Lists.{ListInv, list-first, list-room, list-few, list-refused, list-stopped, list-last, list-more, list-less, item-room}
+use Rattle.tokenizer.specs.Stream.{size, stream}
+use Rattle.answers.proofs.Lists.{ListInv, list-first, list-fits, list-few, list-last, list-more, list-less}
+use Rattle.wkt.specs.Parts.{lineOf}
 
 abbrev Inv-loop : tie.InvT-loop
-Inv-loop text nodes₀ numbers₀ row dimension at₀ parts₀ nodes numbers at parts =
-    ListInv text row (lineOf dimension) nodes₀ numbers₀ at₀ nodes numbers parts at
+Inv-loop text nodes₀ numbers₀ row dimension here₀ parts₀ nodes numbers here parts = ListInv text row (lineOf dimension) nodes₀ numbers₀ here₀ nodes numbers parts here
 
 abbrev μ-loop : tie.MeasureT-loop
-μ-loop text nodes₀ numbers₀ row dimension at₀ parts₀ nodes numbers at parts = size (toks text (at .at))
+μ-loop text nodes₀ numbers₀ row dimension here₀ parts₀ nodes numbers here parts = size (stream text (here .cursor))
 
 loop-holds : tie.Need-loop-holds Inv-loop μ-loop
 loop-holds c = list-first (c .before .before .before .pre .0) (c .before .before .before .pre .1)
 
-with-parens-requires : tie.Need-with-parens-requires Inv-loop μ-loop
-with-parens-requires c κs = list-room (c .before .before .loop .inv)
-
-enum-known-got : tie.Need-enum-known-got Inv-loop μ-loop
-enum-known-got c = search needs
-
-add-parts : tie.Need-add-parts Inv-loop μ-loop
-add-parts c = omega (arith, list-few (c .before .before .before .before .before .before .before .before .before .before .loop .inv))
+line-requires : tie.Need-line-requires Inv-loop μ-loop
+line-requires c κs = list-fits (c .before .before .loop .inv)
 
 after-part-requires : tie.Need-after-part-requires Inv-loop μ-loop
 after-part-requires c κs = search needs
 
-enum-known-next : tie.Need-enum-known-next Inv-loop μ-loop
-enum-known-next c = search needs
+add-parts : tie.Need-add-parts Inv-loop μ-loop
+add-parts c = omega (arith, list-few (c .before .before .before .before .before .before .before .before .before .loop .inv))
 
 loop-less : tie.Need-loop-less Inv-loop μ-loop
-loop-less c =
-    list-less (c .before .before .before .before .before .before .before .before .before .before .before .before .before .before .loop .inv) (c .before .before .before .before .before .before .before .before .before .before .before .with-parens .ensures) (c .before .before .before .before .before .got .given .1) (rw (c .before .next .given .1) at (c .before .before .before .after-part .ensures))
+loop-less c = list-less (c .before .before .before .before .before .before .before .before .before .before .before .loop .inv) (c .before .before .before .before .before .before .before .before .line .ensures) (c .before .before .before .after-part .ensures) (c .before .if1 .taken)
 
 loop-again : tie.Need-loop-again Inv-loop μ-loop
-loop-again c =
-    list-more (c .before .before .before .before .before .before .before .before .before .before .before .before .before .before .loop .inv) (c .before .before .before .before .before .before .before .before .before .before .before .with-parens .ensures) (c .before .before .before .before .before .got .given .1) (rw (c .before .next .given .1) at (c .before .before .before .after-part .ensures)) (c .before .before .before .before .before .before .before .before .before .before .before .with-parens .kept .1 .0) (c .before .before .before .before .before .before .before .before .before .before .before .with-parens .kept .1 .1 .0)
+loop-again c = list-more (c .before .before .before .before .before .before .before .before .before .before .before .loop .inv) (c .before .before .before .before .before .before .before .before .line .ensures) (c .before .before .before .after-part .ensures) (c .before .if1 .taken) (c .before .before .before .before .before .before .before .before .line .kept .1 .0) (c .before .before .before .before .before .before .before .before .line .kept .1 .1 .0)
 
-enum-known-end : tie.Need-enum-known-end Inv-loop μ-loop
-enum-known-end c = search needs
-
-put-parts-requires : tie.Need-put-parts-requires Inv-loop μ-loop
-put-parts-requires c κs = search needs
+fill-parts-requires : tie.Need-fill-parts-requires Inv-loop μ-loop
+fill-parts-requires c κs = search needs
 
 same-length : tie.Need-same-length Inv-loop μ-loop
-same-length c = c .before .before .put-parts .kept .0 ∙ c .before .before .before .before .before .before .before .before .before .before .before .before .before .before .before .with-parens .kept .1 .0 ∙ c .before .before .before .before .before .before .before .before .before .before .before .before .before .before .before .before .before .before .loop .inv .sameN
+same-length c = c .before .before .fill-parts .kept .0 ∙ c .before .before .before .before .before .before .before .before .before .before .before .line .kept .1 .0 ∙ c .before .before .before .before .before .before .before .before .before .before .before .before .before .before .loop .inv .sameN
 
 same-length-2 : tie.Need-same-length-2 Inv-loop μ-loop
-same-length-2 c = c .before .before .before .before .before .before .before .before .before .before .before .before .before .before .before .with-parens .kept .1 .1 .0 ∙ c .before .before .before .before .before .before .before .before .before .before .before .before .before .before .before .before .before .before .loop .inv .sameM
+same-length-2 c = c .before .before .before .before .before .before .before .before .before .before .before .line .kept .1 .1 .0 ∙ c .before .before .before .before .before .before .before .before .before .before .before .before .before .before .loop .inv .sameM
 
 returns : tie.Need-returns Inv-loop μ-loop
-returns c =
-    list-last (c .before .before .before .before .before .before .before .before .before .before .before .before .before .before .before .before .before .before .loop .inv) (c .before .before .before .before .before .before .before .before .before .before .before .before .before .before .before .with-parens .ensures) (c .before .before .before .before .before .before .before .before .before .got .given .1) (rw (c .before .before .before .before .before .end .given .1) at (c .before .before .before .before .before .before .before .after-part .ensures)) (c .before .before .before .before .before .before .before .before .before .before .before .before .before .before .before .with-parens .kept .1 .0) (c .before .before .put-parts .ensures)
-
-enum-known-got-2 : tie.Need-enum-known-got-2 Inv-loop μ-loop
-enum-known-got-2 c = search needs
-
-same-length-3 : tie.Need-same-length-3 Inv-loop μ-loop
-same-length-3 c = c .before .before .before .before .before .before .before .with-parens .kept .1 .0 ∙ c .before .before .before .before .before .before .before .before .before .before .loop .inv .sameN
-
-same-length-4 : tie.Need-same-length-4 Inv-loop μ-loop
-same-length-4 c = c .before .before .before .before .before .before .before .with-parens .kept .1 .1 .0 ∙ c .before .before .before .before .before .before .before .before .before .before .loop .inv .sameM
-
-returns-2 : tie.Need-returns-2 Inv-loop μ-loop
-returns-2 c = list-refused (c .before .before .before .before .before .before .before .before .before .before .loop .inv) (c .before .before .before .before .before .before .before .with-parens .ensures) (c .before .got2 .given .1)
-
-enum-known-got-3 : tie.Need-enum-known-got-3 Inv-loop μ-loop
-enum-known-got-3 c = search needs
-
-same-length-5 : tie.Need-same-length-5 Inv-loop μ-loop
-same-length-5 c = c .before .before .before .before .before .before .before .with-parens .kept .1 .0 ∙ c .before .before .before .before .before .before .before .before .before .before .loop .inv .sameN
-
-same-length-6 : tie.Need-same-length-6 Inv-loop μ-loop
-same-length-6 c = c .before .before .before .before .before .before .before .with-parens .kept .1 .1 .0 ∙ c .before .before .before .before .before .before .before .before .before .before .loop .inv .sameM
-
-returns-3 : tie.Need-returns-3 Inv-loop μ-loop
-returns-3 c = list-stopped (c .before .before .before .before .before .before .before .before .before .before .loop .inv) (c .before .before .before .before .before .before .before .with-parens .ensures) (c .before .got3 .given .1)
+returns c = list-last (c .before .before .before .before .before .before .before .before .before .before .before .before .before .before .loop .inv) (c .before .before .before .before .before .before .before .before .before .before .before .line .ensures) (c .before .before .before .before .before .before .after-part .ensures) (c .before .before .before .before .if1 .left) (c .before .before .before .before .before .before .before .before .before .before .before .line .kept .1 .0) (c .before .before .fill-parts .ensures)
 
 pub lines-spec : {M : Type 1} → statement M
 lines-spec =
@@ -89,23 +52,12 @@ lines-spec =
     Inv-loop
     μ-loop
     loop-holds
-    with-parens-requires
-    enum-known-got
-    add-parts
+    line-requires
     after-part-requires
-    enum-known-next
+    add-parts
     loop-less
     loop-again
-    enum-known-end
-    put-parts-requires
+    fill-parts-requires
     same-length
     same-length-2
-    returns
-    enum-known-got-2
-    same-length-3
-    same-length-4
-    returns-2
-    enum-known-got-3
-    same-length-5
-    same-length-6
-    returns-3)
+    returns)

@@ -1,3 +1,0 @@
-pub mod Sim
-pub mod Flat
-pub mod Whole

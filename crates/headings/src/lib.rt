@@ -1,0 +1,182 @@
+// What stands after a name, and a name with it: `infer_geom_dimension` of the Rust, and the start of `from_tokens_with_parens`.
+use kinds::DIM_XY;
+use names::Ending;
+use names::Name;
+use refusals::NO_CHILD;
+use refusals::NO_HEADER;
+use refusals::NO_ROOT;
+use refusals::NON_ASCII_ROOT;
+use refusals::NOT_OPENED;
+use refusals::UNKNOWN_HEADER;
+use refusals::UNKNOWN_NAME;
+use sorts::OPEN;
+use sorts::WORD;
+use tokenizer::Cursor;
+use tokenizer::Refusal;
+ghost use mathlib.Core.Path.{_≡_};
+ghost use Rattle.scan.specs.Bytes.{isAscii};
+ghost use Rattle.lists.specs.Lists.{every};
+ghost use Rattle.tokenizer.specs.Stream.{stream};
+ghost use Rattle.grammar.specs.Grammar.{opener, header, byName, childHead, rootHead};
+ghost use Rattle.headings.specs.Heads.{MetHead};
+
+// `(` or EMPTY, with the kind, the dimension, its place and the place behind it, where nothing is held; or a refusal.
+pub enum Head {
+    Opens(u32, u32, usize, usize),
+    Empty(u32, u32, usize, usize),
+    Wrong(Refusal, Cursor),
+}
+
+// `(` or EMPTY.
+pub fn opener(text: &[u8], kind: u32, dimension: u32, cursor: Cursor) -> Head
+    ensures { λ r. ⌜ MetHead (now (text .entry)) (opener kind dimension) (stream (now (text .entry)) cursor) r ⌝ }
+{
+    let token = sorts::take(text, cursor);
+    let next = token.next;
+    if token.sort == OPEN {
+        return Head::Opens(kind, dimension, token.place, next.at);
+    }
+    if token.sort != WORD {
+        return Head::Wrong(
+            sorts::refusal_at(text, NOT_OPENED, token.sort, token.place),
+            next,
+        );
+    }
+    let start = token.start;
+    let end = start + token.len;
+    if names::is_empty_word(&text[start..end]) {
+        Head::Empty(kind, dimension, token.place, next.at)
+    } else {
+        Head::Wrong(
+            Refusal {
+                number: NOT_OPENED,
+                place: token.place,
+            },
+            next,
+        )
+    }
+}
+
+// What follows a bare name: a dimension's word is taken, any other token is only looked at.
+fn header(text: &[u8], kind: u32, cursor: Cursor) -> Head
+    ensures { λ r. ⌜ MetHead (now (text .entry)) (header kind) (stream (now (text .entry)) cursor) r ⌝ }
+{
+    let token = sorts::look(text, cursor);
+    let here = token.next;
+    if token.sort < OPEN {
+        return Head::Wrong(
+            Refusal {
+                number: NO_HEADER,
+                place: token.place,
+            },
+            here,
+        );
+    }
+    // What is held is taken by letting it go.
+    if token.sort == OPEN {
+        return Head::Opens(kind, DIM_XY, token.place, here.at);
+    }
+    if token.sort != WORD {
+        return opener(text, kind, DIM_XY, here);
+    }
+    let start = token.start;
+    let end = start + token.len;
+    let word = &text[start..end];
+    match names::ending_of(word) {
+        Ending::Is(dimension) => {
+            let ending = sorts::take(text, here);
+            let next = ending.next;
+            opener(text, kind, dimension, next)
+        }
+        Ending::No => {
+            if names::is_empty_word(word) {
+                opener(text, kind, DIM_XY, here)
+            } else {
+                Head::Wrong(
+                    Refusal {
+                        number: UNKNOWN_HEADER,
+                        place: token.place,
+                    },
+                    here,
+                )
+            }
+        }
+    }
+}
+
+// What follows the word at `place` that means `name`.
+fn by_name(text: &[u8], place: usize, name: Name, cursor: Cursor) -> Head
+    ensures { λ r. ⌜ MetHead (now (text .entry)) (byName place name) (stream (now (text .entry)) cursor) r ⌝ }
+{
+    match name {
+        Name::Unknown => Head::Wrong(
+            Refusal {
+                number: UNKNOWN_NAME,
+                place,
+            },
+            cursor,
+        ),
+        Name::Bare(kind) => header(text, kind, cursor),
+        Name::Joined(kind, dimension) => opener(text, kind, dimension, cursor),
+    }
+}
+
+// The name of a collection's child, and what follows it.
+pub fn child_head(text: &[u8], cursor: Cursor) -> Head
+    ensures { λ r. ⌜ MetHead (now (text .entry)) childHead (stream (now (text .entry)) cursor) r ⌝ }
+{
+    let token = sorts::take(text, cursor);
+    let next = token.next;
+    if token.sort == WORD {
+        let start = token.start;
+        let end = start + token.len;
+        let name = names::name_of(&text[start..end]);
+        return by_name(text, token.place, name, next);
+    }
+    Head::Wrong(
+        sorts::refusal_at(text, NO_CHILD, token.sort, token.place),
+        next,
+    )
+}
+
+// Whether every byte of `w` is ASCII.
+fn is_ascii(w: &[u8]) -> bool
+    ensures { λ r. ⌜ r ≡ every isAscii (now (w .entry)) ⌝ }
+{
+    let mut i = 0;
+    while i < w.len() {
+        if 127 < w[i] {
+            return false;
+        }
+        i += 1;
+    }
+    true
+}
+
+// The name of the root, and what follows it.
+pub fn root_head(text: &[u8], cursor: Cursor) -> Head
+    ensures { λ r. ⌜ MetHead (now (text .entry)) rootHead (stream (now (text .entry)) cursor) r ⌝ }
+{
+    let token = sorts::take(text, cursor);
+    let next = token.next;
+    if token.sort != WORD {
+        return Head::Wrong(
+            sorts::refusal_at(text, NO_ROOT, token.sort, token.place),
+            next,
+        );
+    }
+    let start = token.start;
+    let end = start + token.len;
+    let word = &text[start..end];
+    if is_ascii(word) {
+        by_name(text, token.place, names::name_of(word), next)
+    } else {
+        Head::Wrong(
+            Refusal {
+                number: NON_ASCII_ROOT,
+                place: token.place,
+            },
+            next,
+        )
+    }
+}

@@ -1,0 +1,72 @@
+-- The law of a loop over a walk: what was met so far, and what is ahead, are the whole. A loop begins with nothing met, takes one thing more at each turn, and ends
+-- where all was met or where the rows are no tree. Its own invariant is what it says of the things met.
+-- Assumes nothing.
+use mathlib.Core.Path.{_≡_, refl, ap, sym, subst, _∙_}
+use mathlib.Core.Option.{Option, none, some}
+use mathlib.Core.List.{List, [], _∷_, _++_, append-nil}
+use Prim.Native.Nat.{ℕ, _<_}
+use lib.ListN.{length}
+use Rattle.shape.specs.declared.Walk.{Walk}
+use Rattle.shape.specs.declared.Walked.{Walked}
+use Rattle.shape.specs.declared.Met.{Met}
+use Rattle.shape.specs.declared.Met.the-variants.{Node, End, Done, Ill}
+use Rattle.shape.specs.Nodes.{follow}
+use Rattle.shape.specs.Walk.{cells, After, beginning, step, ahead, wholeWalk}
+use Rattle.shape.proofs.Trees.{follow-none, follow-both}
+use Rattle.shape.proofs.Stepped.{Reached, reached-begin, ahead-begin, Forward, SteppedTo, Stepped, stepped}
+
+pub record Walking (nodes : List ℕ) (count : ℕ) (s : List ℕ) (w : Walk) (P : List Met → Type 0) : Type 0 where
+  pub reached : Reached s w
+  pub passed : List Met
+  pub whole : wholeWalk nodes count ≡ follow passed (ahead nodes count s w)
+  pub holds : P passed
+
+pub begin : (nodes : List ℕ) (count : ℕ) (s₀ : List ℕ) {s : List ℕ} {w : Walk} {P : List Met → Type 0} → length s₀ ≡ cells → (w, s) ≡ beginning s₀ → P [] → Walking nodes count s w P
+begin nodes count s₀ {s} {w} {P} long e p =
+    let i : w ≡ beginning s₀ .0 = ap (λ x. x .0) e in
+    let j : s ≡ beginning s₀ .1 = ap (λ x. x .1) e in
+    rw (i, j) (record {
+      reached = reached-begin s₀ long;
+      passed = [];
+      whole = sym (follow-none (ahead nodes count (beginning s₀ .1) (beginning s₀ .0)) ∙ ahead-begin s₀ long nodes count);
+      holds = p;
+    })
+
+-- a thing is met: a node, or the end of one
+abbrev pub Thing : Met → Type 0
+Thing (Node v) = Unit {0}
+Thing (End i n) = Unit {0}
+Thing Done = ⊥
+Thing Ill = ⊥
+
+module _ {nodes : List ℕ} {count : ℕ} {s : List ℕ} {w : Walk} {P : List Met → Type 0} {r : Walked} {s′ : List ℕ} (t : Walking nodes count s w P) (e : (r, s′) ≡ step nodes count s w) where
+  told : {m : Met} → r .met ≡ m → SteppedTo nodes count s w m (r .next) s′
+  told {m} is =
+      let a : Stepped nodes count s w (r, s′) = subst (λ (a : After). Stepped nodes count s w a) (sym e) (stepped nodes count s w (t .reached)) in
+      rw is at a
+
+  pub forward : {m : Met} → r .met ≡ m → Thing m → Forward nodes count s w m (r .next) s′
+  forward {m} is thing = go m thing (told is)
+    where
+      go : (m : Met) → Thing m → SteppedTo nodes count s w m (r .next) s′ → Forward nodes count s w m (r .next) s′
+      go (Node v) h f = f
+      go (End i n) h f = f
+      go Done h f = absurd h
+      go Ill h f = absurd h
+
+  pub turn : {m : Met} {Q : List Met → Type 0} → r .met ≡ m → Thing m → ((ms : List Met) → P ms → Q (ms ++ (m ∷ []))) → Walking nodes count s′ (r .next) Q
+  turn {m} {Q} is thing on =
+      let f = forward is thing in
+      record {
+        reached = f .reached;
+        passed = t .passed ++ (m ∷ []);
+        whole = t .whole ∙ ap (follow (t .passed)) (f .is) ∙ sym (follow-both (t .passed) (m ∷ []) (ahead nodes count s′ (r .next)));
+        holds = on (t .passed) (t .holds);
+      }
+
+  -- all was met
+  pub done : r .met ≡ Done → wholeWalk nodes count ≡ some (t .passed)
+  done is = t .whole ∙ ap (follow (t .passed)) (told is) ∙ ap some (append-nil (t .passed))
+
+  pub ill : r .met ≡ Ill → wholeWalk nodes count ≡ none
+  ill is = t .whole ∙ ap (follow (t .passed)) (told is)

@@ -1,0 +1,58 @@
+-- Two answers that a public function's contract allows for one input are one answer, and so are two slices that are left.
+-- Assumes nothing.
+use Prim.Native.Nat.{ℕ}
+use mathlib.Core.Path.{_≡_, ap, sym, _∙_}
+use mathlib.Core.List.{List}
+use Rattle.lists.specs.One.{One}
+use Rattle.lists.proofs.One.{one}
+use Rattle.store.specs.declared.NodeRow.{NodeRow}
+use Rattle.store.specs.Rows.{nodeWidth, numberWidth, nodeRoom, numberRoom, Row, placesOf, openRow, closeRow, putSpan, cleared, kindAt, dimensionAt, partsAt, rowAt, startAt, lengthAt, asRow}
+
+module _ (slice : List ℕ) where
+  pub node_room-one : One (λ r. r ≡ nodeRoom slice)
+  node_room-one = one
+
+  pub number_room-one : One (λ r. r ≡ numberRoom slice)
+  number_room-one = one
+
+  pub node_places-one : (rows : ℕ) → One (λ r. r ≡ placesOf nodeWidth slice rows)
+  node_places-one rows = one
+
+  pub number_places-one : (rows : ℕ) → One (λ r. r ≡ placesOf numberWidth slice rows)
+  number_places-one rows = one
+
+  pub clear-one : (from : ℕ) → One (λ left. left ≡ cleared slice from)
+  clear-one from = one
+
+module _ (slice : List ℕ) (row : ℕ) where
+  pub opened_row-one : (kind dimension : ℕ) → One (λ left. left ≡ openRow slice row kind dimension)
+  opened_row-one kind dimension = one
+
+  pub close_row-one : (parts : ℕ) → One (λ left. left ≡ closeRow slice row parts)
+  close_row-one parts = one
+
+  pub put_number-one : (start length : ℕ) → One (λ left. left ≡ putSpan slice row start length)
+  put_number-one start length = one
+
+  pub kind_at-one : One (λ r. r ≡ kindAt slice row)
+  kind_at-one = one
+
+  pub dimension_at-one : One (λ r. r ≡ dimensionAt slice row)
+  dimension_at-one = one
+
+  pub parts_at-one : One (λ r. r ≡ partsAt slice row)
+  parts_at-one = one
+
+  pub start_at-one : One (λ r. r ≡ startAt slice row)
+  start_at-one = one
+
+  pub length_at-one : One (λ r. r ≡ lengthAt slice row)
+  length_at-one = one
+
+-- a row by value is the row that stands there
+fromRow : Row → NodeRow
+fromRow r = record { kind = r .kind; dimension = r .dimension; parts = r .parts }
+
+pub node_at-one : (slice : List ℕ) (row : ℕ) {r r′ : NodeRow} → asRow r ≡ rowAt slice row → asRow r′ ≡ rowAt slice row → r ≡ r′
+unfolding fromRow
+node_at-one slice row x y = ap fromRow (x ∙ sym y)

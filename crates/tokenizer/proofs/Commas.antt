@@ -1,0 +1,99 @@
+-- A comma that is passed over is taken, and any other token is looked at.
+-- Assumes nothing.
+use mathlib.Core.Path.{_≡_, refl, sym, ap, _∙_}
+use mathlib.Core.Bool.{Bool, true, false, false≢true, cond, _&&_}
+use mathlib.Core.List.{List}
+use Prim.Native.Nat.{ℕ, _+_, _<_}
+use lib.Dec.{eqb, ltb}
+use lib.ListN.{length, getD}
+use borrow.Author.Tests.{eqb-true, ltb-true, lt-leb}
+use Rattle.lists.proofs.Cases.{either, and-both}
+use Rattle.scan.specs.Bytes.{parenOpen, parenClose, comma, isBlank}
+use Rattle.scan.specs.Runs.{firstNot}
+use Rattle.scan.proofs.Runs.{stop}
+use Rattle.tokenizer.specs.declared.Token.the-variants.{Comma, ParenClose, ParenOpen}
+use Rattle.tokenizer.specs.declared.Found.{Found}
+use Rattle.tokenizer.specs.declared.Held.{Held}
+use Rattle.tokenizer.specs.declared.Cursor.{Cursor}
+use Rattle.tokenizer.specs.declared.Step.{Step}
+use Rattle.tokenizer.specs.declared.Passed.{Passed}
+use Rattle.tokenizer.specs.Tokens.{step, startAt, tokenAt, readAt, cursorAt, takeHeld, takeAt, lookAt, isNothing, isComma, standsAt, passed, passBy, passComma}
+
+pub held-nothing : (h : Held) → isNothing h ≡ true → h ≡ Held.Nothing
+held-nothing Held.Nothing y = refl
+held-nothing (Held.NoToken p) y = absurd (false≢true y)
+held-nothing (Held.BadNumber p) y = absurd (false≢true y)
+held-nothing (Held.Is p t) y = absurd (false≢true y)
+
+module _ (text : List ℕ) where
+  -- a byte that stands at the cursor starts what is taken
+  module _ (c : Cursor) (b : ℕ) (y : standsAt text b c ≡ true) where
+    stands : (c .at < length text) × (c .held ≡ Held.Nothing) × (getD text (c .at) 0 ≡ b)
+    stands =
+        let outer = and-both (ltb (c .at) (length text)) (isNothing (c .held) && eqb (getD text (c .at) 0) b) y in
+        let inner = and-both (isNothing (c .held)) (eqb (getD text (c .at) 0) b) (outer .1) in
+        (ltb-true (c .at) (length text) (outer .0), held-nothing (c .held) (inner .0), eqb-true (getD text (c .at) 0) b (inner .1))
+
+    pub stands-in : c .at < length text
+    stands-in = stands .0
+
+    stands-taken : isBlank b ≡ false → takeAt text c ≡ step (startAt text (c .at) b .found) (cursorAt (startAt text (c .at) b .at))
+    unfolding takeHeld readAt tokenAt
+    stands-taken n =
+        let s : firstNot isBlank text (c .at) ≡ c .at = stop isBlank text (c .at) stands-in (rw (stands .2) n) in
+        rw (stands .1, s, lt-leb (length text) (c .at) stands-in, stands .2)
+
+  module _ (c : Cursor) where
+    comma-taken-here : standsAt text comma c ≡ true → takeAt text c ≡ step (Found.Is (c .at) Comma) (cursorAt (c .at + 1))
+    unfolding startAt
+    comma-taken-here y = stands-taken c comma y refl
+
+    pub open-taken : standsAt text parenOpen c ≡ true → takeAt text c ≡ step (Found.Is (c .at) ParenOpen) (cursorAt (c .at + 1))
+    unfolding startAt
+    open-taken y = stands-taken c parenOpen y refl
+
+    pub close-taken : standsAt text parenClose c ≡ true → takeAt text c ≡ step (Found.Is (c .at) ParenClose) (cursorAt (c .at + 1))
+    unfolding startAt
+    close-taken y = stands-taken c parenClose y refl
+
+    pub pass-here : standsAt text comma c ≡ true → passed true (cursorAt (c .at + 1)) ≡ passComma text c
+    unfolding passComma
+    pass-here y = rw (comma-taken-here y)
+
+    pub pass-close : standsAt text parenClose c ≡ true → passed false (record { at = c .at + 1; held = Held.Is (c .at) ParenClose }) ≡ passComma text c
+    unfolding passComma
+    pass-close y = rw (close-taken y)
+
+    module _ (s : Step) (e : s ≡ lookAt text c) where
+      pub pass-yes : isComma (s .found) ≡ true → passed true (cursorAt (s .next .at)) ≡ passComma text c
+      unfolding passComma
+      pass-yes y = let z : passed true (cursorAt (s .next .at)) ≡ passBy s = rw y in z ∙ ap passBy e
+
+      pub pass-no : isComma (s .found) ≡ false → passed false (s .next) ≡ passComma text c
+      unfolding passComma
+      pass-no n = let z : passed false (s .next) ≡ passBy s = rw n in z ∙ ap passBy e
+
+    pub take-free : takeAt text c .next ≡ cursorAt (takeAt text c .next .at)
+    unfolding takeHeld
+    take-free = go (c .held)
+      where
+        go : (h : Held) → takeHeld text (c .at) h .next ≡ cursorAt (takeHeld text (c .at) h .next .at)
+        go Held.Nothing = refl
+        go (Held.NoToken p) = refl
+        go (Held.BadNumber p) = refl
+        go (Held.Is p t) = refl
+
+    module _ (r : Passed) (e : r ≡ passComma text c) where
+      -- a comma was taken
+      pub comma-taken : r .comma ≡ true → (isComma (takeAt text c .found) ≡ true) × (r .next ≡ takeAt text c .next)
+      unfolding passComma
+      comma-taken =
+          let Q : Passed → Type 0 = λ p. p .comma ≡ true → (isComma (takeAt text c .found) ≡ true) × (p .next ≡ takeAt text c .next) in
+          rw e (either (isComma (takeAt text c .found)) Q _ _ (λ y z. (y, sym take-free)) (λ n z. absurd (false≢true z)))
+
+      -- another token is held
+      pub other-held : r .comma ≡ false → (isComma (takeAt text c .found) ≡ false) × (r .next ≡ lookAt text c .next)
+      unfolding passComma
+      other-held =
+          let Q : Passed → Type 0 = λ p. p .comma ≡ false → (isComma (takeAt text c .found) ≡ false) × (p .next ≡ lookAt text c .next) in
+          rw e (either (isComma (takeAt text c .found)) Q _ _ (λ y z. absurd (false≢true (sym z))) (λ n z. (n, refl)))

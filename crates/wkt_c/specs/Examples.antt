@@ -1,0 +1,41 @@
+-- Worked examples of this crate's definitions, by computation: each answer's values in the order of their places.
+use mathlib.Core.Path.{_≡_, refl}
+use mathlib.Core.List.{List, [], _∷_}
+use Prim.Native.Nat.{ℕ}
+use Rattle.wkt.specs.declared.ReadAnswer.{ReadAnswer}
+use Rattle.to_wkt.specs.declared.WriteAnswer.{WriteAnswer}
+use Rattle.strict.specs.declared.StrictAnswer.{StrictAnswer}
+use Rattle.infer_type.specs.declared.Inferred.{Inferred}
+use Rattle.wkt_c.specs.Answers.{readPlaces, writePlaces, strictPlaces, inferPlaces}
+
+-- "The reader answers number, place, node count, number count"
+readAnswer : ReadAnswer
+readAnswer = record { number = 11; place = 12; nodes = 13; numbers = 14 }
+
+read : readPlaces readAnswer ≡ 11 ∷ 12 ∷ 13 ∷ 14 ∷ []
+unfolding readAnswer
+read = refl
+
+-- "the writer number, place, length"
+writeAnswer : WriteAnswer
+writeAnswer = record { number = 11; place = 12; length = 13 }
+
+write : writePlaces writeAnswer ≡ 11 ∷ 12 ∷ 13 ∷ 0 ∷ []
+unfolding writeAnswer
+write = refl
+
+-- "the strict check number, letter (its ASCII byte, 0 if none), node row (0 if none)"
+strictAnswer : StrictAnswer
+strictAnswer = record { number = 11; letter = 65; row = 13 }
+
+strict : strictPlaces strictAnswer ≡ 11 ∷ 65 ∷ 13 ∷ 0 ∷ []
+unfolding strictAnswer
+strict = refl
+
+-- "infer_type number, place, kind, dimension"
+inferred : Inferred
+inferred = record { number = 11; place = 12; kind = 13; dimension = 14 }
+
+infer : inferPlaces inferred ≡ 11 ∷ 12 ∷ 13 ∷ 14 ∷ []
+unfolding inferred
+infer = refl

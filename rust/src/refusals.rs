@@ -1,0 +1,103 @@
+//! The numbers of the refusals by name, with their messages: made by tools/refusals from crates/refusals/table.txt.
+
+/// `The text has more than 65,535 bytes`
+pub const TEXT_TOO_LONG: u32 = 1;
+
+/// `The text is not well-formed UTF-8`
+pub const ILL_FORMED_UTF8: u32 = 2;
+
+/// `No room for another node`
+pub const NO_NODE_ROW: u32 = 3;
+
+/// `No room for another number`
+pub const NO_NUMBER_ROW: u32 = 4;
+
+/// `More than 32 collections are open`
+pub const TOO_DEEP: u32 = 5;
+
+/// `Unable to parse input number as the desired output type`
+pub const BAD_NUMBER: u32 = 6;
+
+/// `Encountered non-ascii word`
+pub const NON_ASCII_ROOT: u32 = 7;
+
+/// `Invalid WKT format`
+pub const NO_ROOT: u32 = 8;
+
+/// `Invalid type encountered`
+pub const UNKNOWN_NAME: u32 = 9;
+
+/// `End of stream`
+pub const NO_HEADER: u32 = 10;
+
+/// `Unexpected word before open paren`
+pub const UNKNOWN_HEADER: u32 = 11;
+
+/// `Missing open parenthesis for type`
+pub const NOT_OPENED: u32 = 12;
+
+/// `Missing closing parenthesis for type`
+pub const NOT_CLOSED: u32 = 13;
+
+/// `Expected a number for the X coordinate`
+pub const NO_X: u32 = 14;
+
+/// `Expected a number for the Y coordinate`
+pub const NO_Y: u32 = 15;
+
+/// `Expected a number for the Z coordinate`
+pub const NO_Z: u32 = 16;
+
+/// `Expected a number for the M coordinate`
+pub const NO_M: u32 = 17;
+
+/// `Expected a word in GEOMETRYCOLLECTION`
+pub const NO_CHILD: u32 = 18;
+
+/// `Unsupported WKT prefix`
+pub const UNSUPPORTED_NAME: u32 = 19;
+
+/// `Invalid WKT; no whitespace between geometry type and EMPTY.`
+pub const EMPTY_WITHOUT_SPACE: u32 = 20;
+
+/// `Invalid WKT; no '(' character and not EMPTY`
+pub const NEITHER_PAREN_NOR_EMPTY: u32 = 21;
+
+/// `The rows are not a well-formed store`
+pub const ILL_FORMED_STORE: u32 = 22;
+
+/// `The canonical text is longer than the room`
+pub const NO_ROOM: u32 = 23;
+
+/// `The part that names the type is not ASCII`
+pub const NON_ASCII: u32 = 24;
+
+pub(crate) fn message(number: u32) -> &'static str {
+    match number {
+        TEXT_TOO_LONG => "The text has more than 65,535 bytes",
+        ILL_FORMED_UTF8 => "The text is not well-formed UTF-8",
+        NO_NODE_ROW => "No room for another node",
+        NO_NUMBER_ROW => "No room for another number",
+        TOO_DEEP => "More than 32 collections are open",
+        BAD_NUMBER => "Unable to parse input number as the desired output type",
+        NON_ASCII_ROOT => "Encountered non-ascii word",
+        NO_ROOT => "Invalid WKT format",
+        UNKNOWN_NAME => "Invalid type encountered",
+        NO_HEADER => "End of stream",
+        UNKNOWN_HEADER => "Unexpected word before open paren",
+        NOT_OPENED => "Missing open parenthesis for type",
+        NOT_CLOSED => "Missing closing parenthesis for type",
+        NO_X => "Expected a number for the X coordinate",
+        NO_Y => "Expected a number for the Y coordinate",
+        NO_Z => "Expected a number for the Z coordinate",
+        NO_M => "Expected a number for the M coordinate",
+        NO_CHILD => "Expected a word in GEOMETRYCOLLECTION",
+        UNSUPPORTED_NAME => "Unsupported WKT prefix",
+        EMPTY_WITHOUT_SPACE => "Invalid WKT; no whitespace between geometry type and EMPTY.",
+        NEITHER_PAREN_NOR_EMPTY => "Invalid WKT; no '(' character and not EMPTY",
+        ILL_FORMED_STORE => "The rows are not a well-formed store",
+        NO_ROOM => "The canonical text is longer than the room",
+        NON_ASCII => "The part that names the type is not ASCII",
+        _ => "Unknown refusal",
+    }
+}
