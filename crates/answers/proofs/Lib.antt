@@ -1,3 +1,3 @@
 pub mod Parts
-pub mod Lists
+pub mod ByCommas
 pub mod OneOutcome

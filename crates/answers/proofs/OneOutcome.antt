@@ -1,41 +1,54 @@
--- Two answers that a public function's contract allows for one input are one answer, or say the same of rows and tokens whatever the rows are.
+-- Two answers that a public function's contract allows for one input are one answer, and the slices are left the same.
 -- Assumes nothing.
 use Prim.Native.Nat.{ℕ}
-use mathlib.Core.Path.{_≡_, sym, ap, _∙_}
-use mathlib.Core.Bool.{cond}
+use mathlib.Core.Path.{_≡_}
 use mathlib.Core.List.{List}
 use Rattle.lists.specs.One.{One}
 use Rattle.lists.proofs.One.{one}
-use Rattle.tokenizer.specs.Tokens.{cursorAt}
-use Rattle.tokenizer.specs.Stream.{stream}
-use Rattle.store.specs.Rows.{Row, Span, openRow, closeRow}
-use Rattle.grammar.specs.Asks.{answerIn, leftIn}
+use Rattle.tokenizer.specs.declared.Cursor.{Cursor}
+use Rattle.tokenizer.specs.Tokens.{cursorAt, passComma}
+use Rattle.store.specs.Rows.{openRow}
 use Rattle.answers.specs.declared.State.{State}
-use Rattle.answers.specs.declared.Verdict.{Verdict}
+use Rattle.answers.specs.declared.Spot.{Spot}
 use Rattle.answers.specs.declared.Answer.{Answer}
-use Rattle.answers.specs.Reading.{isRead, isStopped, gotOf, state, Room, MetClosing, rowFor}
+use Rattle.answers.specs.declared.Answer.the-variants.{Read}
+use Rattle.answers.specs.Reading.{spot, state, stateOf, endedNodes, closedAt, closedNodes, afterRefusal, rowFor}
 
-pub behind-one : (at n m : ℕ) → One (λ r. r ≡ state (cursorAt at) n m)
-behind-one at n m = one
+pub moved-one : (at : ℕ) (s : Spot) → One (λ r. r ≡ spot at (s .nodes) (s .numbers))
+moved-one at s = one
 
-pub is_read-one : (v : Verdict) → One (λ r. r ≡ isRead v)
-is_read-one v = one
+pub at_cursor-one : (c : Cursor) (s : Spot) → One (λ r. r ≡ state c (s .nodes) (s .numbers))
+at_cursor-one c s = one
 
-pub is_stopped-one : (v : Verdict) → One (λ r. r ≡ isStopped v)
-is_stopped-one v = one
+pub state_of-one : (s : Spot) → One (λ r. r ≡ stateOf s)
+state_of-one s = one
 
--- `node`: the answer, and the slice that is left
+pub spot_of-one : (s : State) → One (λ r. r ≡ spot (s .cursor .at) (s .nodes) (s .numbers))
+spot_of-one s = one
+
+pub after_part-one : (text : List ℕ) (end : Spot) → One (λ r. r ≡ passComma text (cursorAt (end .at)))
+after_part-one text end = one
+
+pub after_refusal-one : (text : List ℕ) (got : Answer) → One (λ r. r ≡ afterRefusal text got)
+after_refusal-one text got = one
+
+-- those that are lent the node rows: the answer, and the slice that is left
+module _ (ns : List ℕ) (row parts : ℕ) where
+  pub ended-one : (end : Spot) → One (λ r. r ≡ Read end)
+  ended-one end = one
+
+  pub ended-left-one : (end : Spot) → One (λ left. left ≡ endedNodes ns row parts end)
+  ended-left-one end = one
+
+  pub closing-one : (text : List ℕ) (s : State) → One (λ r. r ≡ closedAt text s)
+  closing-one text s = one
+
+  pub closing-left-one : (text : List ℕ) (s : State) → One (λ left. left ≡ closedNodes text s ns row parts)
+  closing-left-one text s = one
+
 module _ (ns : List ℕ) where
-  pub node-one : (place : ℕ) (s : State) → One (λ r. r ≡ rowFor ns place s)
-  node-one place s = one
+  pub «open_node-one» : (place : ℕ) (s : Spot) → One (λ r. r ≡ rowFor ns place s)
+  «open_node-one» place s = one
 
-  pub node-left-one : (i kind dimension : ℕ) → One (λ left. left ≡ openRow ns i kind dimension)
-  node-left-one i kind dimension = one
-
-  pub fill_parts-one : (i parts : ℕ) (v : Verdict) → One (λ left. left ≡ cond (isRead v) (closeRow ns i parts) ns)
-  fill_parts-one i parts v = one
-
-pub closing-one : {text : List ℕ} {a r r′ : Answer} → MetClosing text a r → MetClosing text a r′ → (N M : ℕ) (R : ℕ → List Row) (S : ℕ → List Span) → Room text N M (a .state) → (gotOf R S r ≡ gotOf R S r′) × (stream text (r .state .cursor) ≡ stream text (r′ .state .cursor))
-closing-one x y N M R S room =
-    let same = sym (x .met N M R S room .is) ∙ y .met N M R S room .is in
-    (ap answerIn same, ap leftIn same)
+  pub «open_node-left-one» : (i kind dimension : ℕ) → One (λ left. left ≡ openRow ns i kind dimension)
+  «open_node-left-one» i kind dimension = one

@@ -7,12 +7,12 @@ use mathlib.Core.List.{List}
 use Rattle.lists.specs.One.{One}
 use Rattle.lists.proofs.One.{one}
 use Rattle.printing.specs.Printing.{Buffer, putAllIn}
-use Rattle.console.specs.Console.{isOverInput, nodeRows, numberRows, countsLine, refusalLine, tooLongLine, u32At}
+use Rattle.console.specs.Console.{isOverInput, roomForNodes, roomForNumbers, countsLine, refusalLine, tooLongLine, u32At}
 
-pub node_rows-one : One (λ r. r ≡ nodeRows)
+pub node_rows-one : One (λ r. r ≡ roomForNodes)
 node_rows-one = one
 
-pub number_rows-one : One (λ r. r ≡ numberRows)
+pub number_rows-one : One (λ r. r ≡ roomForNumbers)
 number_rows-one = one
 
 pub is_over-one : (bytes : ℕ) → One (λ r. r ≡ isOverInput bytes)

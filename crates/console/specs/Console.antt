@@ -16,11 +16,11 @@ abbrev pub isOverInput : ℕ → Bool
 isOverInput n = ltb inputLimit n
 
 -- "It has room for 1,024 nodes and 4,096 numbers."
-abbrev pub nodeRows : ℕ
-nodeRows = 1024
+abbrev pub roomForNodes : ℕ
+roomForNodes = 1024
 
-abbrev pub numberRows : ℕ
-numberRows = 4096
+abbrev pub roomForNumbers : ℕ
+roomForNumbers = 4096
 
 -- a name and two numbers, each after a space, and what ends the line
 abbrev pub countsLine : List ℕ → ℕ → ℕ → List ℕ → List (List ℕ)

@@ -5,7 +5,7 @@ use mathlib.Core.List.{List, [], _∷_}
 use Prim.Native.Nat.{ℕ}
 use Rattle.scan.specs.Text.{bytes}
 use Rattle.printing.specs.Printing.{buffer, hasRoomAt, putIn, putAllIn, placesFrom, decimal}
-use Rattle.console.specs.Console.{inputLimit, isOverInput, nodeRows, numberRows, newline, countsLine, refusalLine, tooLongLine, u32At}
+use Rattle.console.specs.Console.{inputLimit, isOverInput, roomForNodes, roomForNumbers, newline, countsLine, refusalLine, tooLongLine, u32At}
 
 -- a buffer of twenty blanks
 out : List ℕ
@@ -20,7 +20,7 @@ limits : (inputLimit ≡ 65535) × (isOverInput 65535 ≡ false) × (isOverInput
 limits = (refl, refl, refl)
 
 -- the programs' rooms: 1,024 nodes and 4,096 numbers
-rooms : (nodeRows ≡ 1024) × (numberRows ≡ 4096)
+rooms : (roomForNodes ≡ 1024) × (roomForNumbers ≡ 4096)
 rooms = (refl, refl)
 
 -- "a refusal prints as `refused 13 8`": the number, then the place

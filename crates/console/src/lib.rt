@@ -11,7 +11,7 @@ ghost use Prim.Native.Nat.{_+_, _*_, _≤_};
 ghost use lib.ListN.{length};
 ghost use Rattle.io.specs.Counts.{Counts};
 ghost use Rattle.printing.specs.Printing.{buffer, putAllIn};
-ghost use Rattle.console.specs.Console.{isOverInput, nodeRows, numberRows, countsLine, refusalLine, tooLongLine, u32At};
+ghost use Rattle.console.specs.Console.{isOverInput, roomForNodes, roomForNumbers, countsLine, refusalLine, tooLongLine, u32At};
 
 // The most bytes that a program reads as a text. It stays where it is when the library's limit moves.
 pub const INPUT_LIMIT: usize = 65_535;
@@ -29,13 +29,13 @@ pub const NUMBER_PLACES: usize = NUMBER_ROWS * NUMBER_WIDTH;
 
 // The rooms are those of the definitions: whoever takes the constants has this contract for them.
 pub fn node_rows() -> usize
-    ensures { λ r. ⌜ r ≡ nodeRows ⌝ }
+    ensures { λ r. ⌜ r ≡ roomForNodes ⌝ }
 {
     NODE_ROWS
 }
 
 pub fn number_rows() -> usize
-    ensures { λ r. ⌜ r ≡ numberRows ⌝ }
+    ensures { λ r. ⌜ r ≡ roomForNumbers ⌝ }
 {
     NUMBER_ROWS
 }

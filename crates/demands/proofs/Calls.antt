@@ -17,7 +17,7 @@ use Rattle.grammar.specs.Reading.{reading}
 use Rattle.grammar.proofs.WellRead.{reading-well-formed}
 use Rattle.grammar.proofs.Fuel.{reading-refusals, reading-halts, reading-kept}
 use Rattle.wkt.specs.declared.ReadAnswer.{ReadAnswer}
-use Rattle.wkt.specs.Whole.{Leaves}
+use Rattle.wkt.specs.Leaves.{Leaves}
 use Rattle.shape.specs.Store.{allRows, allSpans, allTexts, wellFormed, treeOf}
 use Rattle.shape.proofs.Stores.{tree-of, is-well-formed}
 use Rattle.shape.proofs.Slices.{flat-rows, flat-spans, flat-whole, used-rows, used-spans}

@@ -34,13 +34,13 @@ use Rattle.grammar.specs.Reading.{enough, reading}
 use Rattle.grammar.proofs.After.{accepted}
 use Rattle.grammar.proofs.Fuel.{reading-refusals, reading-halts, reading-kept}
 use Rattle.wkt.specs.declared.ReadAnswer.{ReadAnswer}
-use Rattle.wkt.specs.Whole as read
-use Rattle.wkt.specs.Whole.{Leaves, leaves-one}
+use Rattle.wkt.specs.Leaves as read
+use Rattle.wkt.specs.Leaves.{Leaves, leaves-one}
 use Rattle.shape.specs.declared.Visit.{Visit}
 use Rattle.shape.specs.declared.Frame.{Frame}
 use Rattle.shape.specs.declared.Met.{Met}
 use Rattle.shape.specs.declared.Met.the-variants as met
-use Rattle.shape.specs.Nodes.{noKind, above, visitOf, numbersOf, isLeaf, isAllowed, mayOpen, opened, onward, isSpent, endOf, endings, stillOpen, follow, atLast, meetsNode, meetsRows, meets}
+use Rattle.shape.specs.Nodes.{noKind, above, visitOf, numbersOf, isLeaf, isAllowed, mayOpen, frameOf, onward, isSpent, nodeEnd, nodeEnds, stillOpen, follow, atLast, meetsNode, meetsRows, meets}
 use Rattle.shape.specs.Numbers.{areNumbers}
 use Rattle.shape.specs.Store.{allRows, areWhole, treeOf, wellFormed, mapO, walkOf}
 use Rattle.shape.proofs.Stores.{walk-of, well-by-walk}
@@ -53,7 +53,7 @@ use Rattle.strict.specs.Outcome as outcome
 use Rattle.strict.specs.Outcome.{Outcome}
 use Rattle.strict.proofs.Outcome.{first-fault}
 use Rattle.to_wkt.specs.declared.WriteAnswer.{WriteAnswer}
-use Rattle.to_wkt.specs.Canonical.{storeText, theText, textOf}
+use Rattle.to_wkt.specs.Canonical.{storeText, theText, writtenText}
 use Rattle.to_wkt.specs.Write as write
 use Rattle.to_wkt.specs.Write.{answerOf, roomAfter}
 use Rattle.demands.specs.Faults.{PlaceOf, over-limit, ill-formed, at-fault, AtFault, no-node, no-number, too-deep, bad-number, not-ascii, no-root, no-name, no-header, no-ending, not-opened, not-closed, no-x, no-y, no-z, no-m, no-child, stopped}
@@ -216,7 +216,7 @@ read-accepts text ns ms a ns′ ms′ r z =
     }
 
 pub write-answers : WriteAnswers
-unfolding storeText wellFormed textOf
+unfolding storeText wellFormed writtenText
 write-answers text nodes numbers room r bytes w = go (treeOf text nodes numbers) refl (w .answer) (w .bytes)
   where
     its : Tree depthLimit → List ℕ
@@ -257,14 +257,14 @@ module _ (L : ℕ) where
   follow-below ms none b h = tt
   follow-below ms (some more) b h = both-below ms more b h
 
-  end-below : (f : Frame) (i : ℕ) → All Below (endOf f i)
-  unfolding endOf All
+  end-below : (f : Frame) (i : ℕ) → All Below (nodeEnd f i)
+  unfolding nodeEnd All
   end-below f i = either (eqb (f .kind) noKind) (All Below) _ _ (λ e. tt) λ e. (tt, tt)
 
-  endings-below : (fs : List Frame) (i : ℕ) → All Below (endings fs i)
-  unfolding endings All
+  endings-below : (fs : List Frame) (i : ℕ) → All Below (nodeEnds fs i)
+  unfolding nodeEnds All
   endings-below [] i = tt
-  endings-below (f ∷ fs) i = either (isSpent f) (All Below) _ _ (λ e. both-below (endOf f i) (endings fs i) (end-below f i) (endings-below fs i)) λ e. tt
+  endings-below (f ∷ fs) i = either (isSpent f) (All Below) _ _ (λ e. both-below (nodeEnd f i) (nodeEnds fs i) (end-below f i) (endings-below fs i)) λ e. tt
 
   one-below : (count : ℕ) (f : Frame) (fs : List Frame) (v : Visit) (rest : List Frame → ℕ → Option (List Met)) → v .row < L → ((gs : List Frame) (j : ℕ) → Every Below (rest gs j)) → Every Below (meetsNode count f fs v rest)
   unfolding meetsNode All
@@ -273,7 +273,7 @@ module _ (L : ℕ) where
       either (isAllowed v) (Every Below) _ _
       (λ a. either (isLeaf v) (Every Below) _ _
       (λ l. either (leb (v .number + numbersOf v) count) (Every Below) _ _ (λ e. follow-below (met.Node v ∷ []) (rest (onward f ∷ fs) (v .number + numbersOf v)) node (h _ _)) λ e. tt)
-      λ l. either (mayOpen v) (Every Below) _ _ (λ e. follow-below (met.Node v ∷ []) (rest (opened v ∷ onward f ∷ fs) (v .number)) node (h _ _)) λ e. tt)
+      λ l. either (mayOpen v) (Every Below) _ _ (λ e. follow-below (met.Node v ∷ []) (rest (frameOf v ∷ onward f ∷ fs) (v .number)) node (h _ _)) λ e. tt)
       λ a. tt
 
   last-below : (count : ℕ) (fs : List Frame) (j : ℕ) → Every Below (atLast count fs j)
@@ -287,14 +287,14 @@ module _ (L : ℕ) where
   rows-below count [] i j (r ∷ rs) h = tt
   rows-below count (f ∷ fs) i j (r ∷ rs) h =
       one-below count f fs (visitOf i j f r) _ (omega arith)
-      λ gs j′. follow-below (endings gs (i + 1)) (meetsRows count (stillOpen gs) (i + 1) j′ rs) (endings-below gs (i + 1)) (rows-below count (stillOpen gs) (i + 1) j′ rs (omega arith))
+      λ gs j′. follow-below (nodeEnds gs (i + 1)) (meetsRows count (stillOpen gs) (i + 1) j′ rs) (endings-below gs (i + 1)) (rows-below count (stillOpen gs) (i + 1) j′ rs (omega arith))
 
 store-below : (text nodes numbers : List ℕ) → Every (Below (nodeRoom nodes)) (walkOf text nodes numbers)
 unfolding meets
 store-below text nodes numbers =
     rw (walk-of text nodes numbers)
     (either (areWhole nodes numbers && areNumbers text numbers) (Every (Below (nodeRoom nodes))) _ _
-    (λ e. follow-below (nodeRoom nodes) (endings (above ∷ []) 0) (meetsRows (numberRoom numbers) (stillOpen (above ∷ [])) 0 0 (allRows nodes)) (endings-below (nodeRoom nodes) (above ∷ []) 0)
+    (λ e. follow-below (nodeRoom nodes) (nodeEnds (above ∷ []) 0) (meetsRows (numberRoom numbers) (stillOpen (above ∷ [])) 0 0 (allRows nodes)) (endings-below (nodeRoom nodes) (above ∷ []) 0)
     (rows-below (nodeRoom nodes) (numberRoom numbers) (stillOpen (above ∷ [])) 0 0 (allRows nodes) (omega (arith, rows-length nodes (nodeRoom nodes))))) λ e. tt)
 
 -- a node in the midst of those that are met

@@ -4,7 +4,7 @@ use mathlib.Core.Path.{_≡_, refl, ap, sym, _∙_}
 use mathlib.Core.Logic.{_⊎_, inl, inr}
 use mathlib.Core.Option.{Option, none, some, Option·map}
 use mathlib.Core.List.{List, [], _∷_, flatMap}
-use Prim.Native.Nat.{ℕ}
+use Prim.Native.Nat.{ℕ, _*_}
 use native.Mathlib.Omega.{arith}
 use lib.ListN.{length, getD, length-map}
 use Rattle.limits.specs.Limits.{depthLimit}
@@ -13,7 +13,7 @@ use Rattle.number.specs.Grammar.{Float}
 use Rattle.number.proofs.Equal.{sound}
 use Rattle.lists.specs.Lists.{every}
 use Rattle.tokenizer.proofs.Bridge.{toks-lex}
-use Rattle.store.specs.Rows.{Row, Span, span, nodeRoom, numberRoom, cell, partsAt, startAt, flatRows, flatSpans, zeros, padded}
+use Rattle.store.specs.Rows.{Row, Span, span, nodeWidth, numberWidth, nodeRoom, numberRoom, cell, partsAt, spanStartAt, flatRows, flatSpans, zeros, padded}
 use Rattle.lists.specs.Lists.{All}
 use Rattle.grammar.specs.Answers.{Passes}
 use Rattle.grammar.specs.Edges.{Edge, reads, writes, Holds, onePoint, twoPoints, edges, every-edge}
@@ -26,7 +26,7 @@ use Rattle.tree.proofs.TreeIn.{trees-own}
 use Rattle.grammar.proofs.WellRead.{reading-well-formed}
 use Rattle.grammar.proofs.Fuel.{reading-kept}
 use Rattle.wkt.specs.declared.ReadAnswer.{ReadAnswer}
-use Rattle.wkt.specs.Whole.{Leaves, leaves-one, answerOf, rowsOf, spansOf, rootIn}
+use Rattle.wkt.specs.Leaves.{Leaves, leaves-one, answerOf, rowsOf, spansOf, rootIn}
 use Rattle.shape.specs.Store.{mapO, treeOf}
 use Rattle.to_wkt.specs.Canonical.{storeText}
 use Rattle.demands.specs.Calls.{Read, usedNodes, usedNumbers}
@@ -111,10 +111,10 @@ one-reader = (
 
 -- slices for 40 node rows and 9 number rows, as the edges have them
 ns₀ : List ℕ
-ns₀ = zeros 120
+ns₀ = zeros (40 * nodeWidth)
 
 ms₀ : List ℕ
-ms₀ = zeros 18
+ms₀ = zeros (9 * numberWidth)
 
 nodes-40 : nodeRoom ns₀ ≡ 40
 unfolding ns₀
@@ -159,6 +159,6 @@ shuts-out-first f m bad =
     let l = multipoint-read f m in
     go (bad multipoint ns₀ ms₀ (ap (λ (x : ReadAnswer). x .number) (l .answer)) (rw (l .nodes)) (rw (l .nodes)) (rw (l .nodes)))
   where
-    go : (partsAt (f multipoint ns₀ ms₀ .nodes) 2 ≡ 0) ⊎ (startAt (f multipoint ns₀ ms₀ .numbers) 2 ≡ startAt (f multipoint ns₀ ms₀ .numbers) 0) → ⊥
+    go : (partsAt (f multipoint ns₀ ms₀ .nodes) 2 ≡ 0) ⊎ (spanStartAt (f multipoint ns₀ ms₀ .numbers) 2 ≡ spanStartAt (f multipoint ns₀ ms₀ .numbers) 0) → ⊥
     go (inl e) = let z : _≡_ {A = ℕ} 1 0 = rw (multipoint-read f m .nodes) at e in omega (arith, z)
     go (inr e) = let z : _≡_ {A = ℕ} 17 12 = rw (multipoint-read f m .numbers) at e in omega (arith, z)

@@ -13,7 +13,7 @@ use Rattle.limits.specs.Limits.{textLimit, overLimit, depthLimit}
 use Rattle.utf8.specs.Utf8.{walk, firstIll, isUtf8}
 use Rattle.tokenizer.specs.declared.Refusal.{Refusal}
 use Rattle.refusals.specs.Refusals.{illFormedStore, noRoom}
-use Rattle.store.specs.Rows.{Row, Span, nodeRoom, numberRoom, cell, firsts, rowsIn, spansIn, zeros}
+use Rattle.store.specs.Rows.{Row, nodeOver, Span, flatRows, nodeWidth, nodeRoom, numberRoom, cell, firsts, rowsIn, spansIn, zeros}
 use Rattle.tree.specs.Tree.{Tree, rows, texts}
 use Rattle.tree.specs.TreeIn.{spanText, spanTexts, treeIn}
 use Rattle.tree.specs.TreeIn as tree
@@ -35,7 +35,7 @@ use Rattle.shape.proofs.Slices.{front-of, same-store}
 use Rattle.form.specs.Form.{RoomFor, Filled, Lawful}
 use Rattle.form.proofs.Form.{one-tree, trees-equal, trees-again, tree-back, one-tree-one-writing}
 use Rattle.to_wkt.specs.declared.WriteAnswer.{WriteAnswer}
-use Rattle.to_wkt.specs.Canonical.{storeText, theText, textOf}
+use Rattle.to_wkt.specs.Canonical.{storeText, theText, writtenText}
 use Rattle.to_wkt.specs.Write.{accepted, answerOf}
 use Rattle.to_wkt.specs.Write as write
 use Rattle.to_wkt.proofs.Trees.{has-text}
@@ -86,14 +86,14 @@ one-writing-of-trees = (trees-equal canonicalForm text-back, trees-again canonic
 record ShortTree (text nodes numbers : List ℕ) : Type 0 where
   tree : Tree depthLimit
   is : treeOf text nodes numbers ≡ some tree
-  its : textOf text nodes numbers ≡ canonicalText tree
+  its : writtenText text nodes numbers ≡ canonicalText tree
   fits : FitsText tree
 
 short-tree : (text nodes numbers : List ℕ) → Short text nodes numbers → ShortTree text nodes numbers
-unfolding textOf
+unfolding writtenText
 short-tree text nodes numbers s =
     let g = grown text nodes numbers (s .well) in
-    let e : textOf text nodes numbers ≡ canonicalText (g .tree) = ap theText (tree-text text nodes numbers (g .tree) (g .is)) in
+    let e : writtenText text nodes numbers ≡ canonicalText (g .tree) = ap theText (tree-text text nodes numbers (g .tree) (g .is)) in
     record { tree = g .tree; is = g .is; its = e; fits = record { good = store-tree text nodes numbers (g .tree) (g .is) .good; short = rw e at (s .short) } }
 
 pub one-writing : OneWriting
@@ -106,7 +106,7 @@ one-writing text nodes numbers text′ nodes′ numbers′ s s′ =
 pub reads-back : ReadsBack
 reads-back text nodes numbers ns ms a ns′ ms′ s hn hm r =
     let g = short-tree text nodes numbers s in
-    tree-back canonicalForm textEntries lawful text nodes numbers (g .tree) (g .is) (g .fits) (textOf text nodes numbers) ns ms a ns′ ms′ (g .its) hn hm r
+    tree-back canonicalForm textEntries lawful text nodes numbers (g .tree) (g .is) (g .fits) (writtenText text nodes numbers) ns ms a ns′ ms′ (g .its) hn hm r
 
 -- ---- readings
 pub read-well : ReadWell
@@ -116,8 +116,8 @@ pub never-ill : NeverIll
 never-ill text ns ms a ns′ ms′ r z room w bs x e =
     let nodes : List ℕ = usedNodes a ns′ in
     let numbers : List ℕ = usedNumbers a ms′ in
-    let q : w ≡ answerOf (some (textOf text nodes numbers)) room = x .answer ∙ ap (λ o. answerOf o room) (has-text text numbers nodes (read-well text ns ms a ns′ ms′ r z)) in
-    go (leb (length (textOf text nodes numbers)) room) (length (textOf text nodes numbers)) (sym (ap (λ (y : WriteAnswer). y .number) q) ∙ e)
+    let q : w ≡ answerOf (some (writtenText text nodes numbers)) room = x .answer ∙ ap (λ o. answerOf o room) (has-text text numbers nodes (read-well text ns ms a ns′ ms′ r z)) in
+    go (leb (length (writtenText text nodes numbers)) room) (length (writtenText text nodes numbers)) (sym (ap (λ (y : WriteAnswer). y .number) q) ∙ e)
   where
     go : (b : Bool) (n : ℕ) → ((cond b (accepted n) (write.refused noRoom)) .number) ≡ illFormedStore → ⊥
     go true n e = omega arith
@@ -130,11 +130,11 @@ reads-again text ns ms a ns′ ms′ r z h ps qs c ps′ qs′ hn hm r′ =
 
 -- ---- writers
 -- one that meets the contract says that it wrote the canonical text
-meets-said : (f : Writer) → MeetsWrite f → (text nodes numbers : List ℕ) (room : ℕ) → wellFormed text nodes numbers ≡ true → f text nodes numbers room .answer .number ≡ 0 → saidBy (f text nodes numbers room) ≡ textOf text nodes numbers
+meets-said : (f : Writer) → MeetsWrite f → (text nodes numbers : List ℕ) (room : ℕ) → wellFormed text nodes numbers ≡ true → f text nodes numbers room .answer .number ≡ 0 → saidBy (f text nodes numbers room) ≡ writtenText text nodes numbers
 meets-said f m text nodes numbers room w z = go (leb (length b) room) refl
   where
     b : List ℕ
-    b = textOf text nodes numbers
+    b = writtenText text nodes numbers
 
     its : Put
     its = f text nodes numbers room
@@ -152,7 +152,7 @@ pub meets-back : MeetsBack
 meets-back f m =
     record {
       accepts =
-          λ text nodes numbers room s h. (let q = said text nodes numbers (textOf text nodes numbers) room (f text nodes numbers room .answer) (f text nodes numbers room .bytes) (has-text text numbers nodes (s .well)) (omega (arith, s .short)) (m text nodes numbers room) in
+          λ text nodes numbers room s h. (let q = said text nodes numbers (writtenText text nodes numbers) room (f text nodes numbers room .answer) (f text nodes numbers room .bytes) (has-text text numbers nodes (s .well)) (omega (arith, s .short)) (m text nodes numbers room) in
           ap (λ (x : WriteAnswer). x .number) (q .0));
       back =
           λ text nodes numbers room s z ns ms a ns′ ms′ hn hm r. (let e = meets-said f m text nodes numbers room (s .well) z in
@@ -162,11 +162,11 @@ meets-back f m =
 
 -- a store of one empty geometry
 all : ℕ
-unfolding cell firsts rowsIn spansIn every flatMap tree.onFront tree.asA tree.times tree.atMostOne tree.findParts tree.findNode tree.whole areWhole areNumbers treeOf wellFormed storeText textOf separated putNamed putDimension stringOf putWith
+unfolding cell firsts rowsIn spansIn flatRows every flatMap tree.onFront tree.asA tree.times tree.atMostOne tree.findParts tree.findNode tree.whole areWhole areNumbers treeOf wellFormed storeText writtenText separated putNamed putDimension stringOf putWith
 all = 0
 
 abbrev empty : ℕ → List ℕ
-empty k = k ∷ 0 ∷ 0 ∷ []
+empty k = flatRows (nodeOver k 0 0 [])
 
 short-point : Short [] (empty kindPoint) []
 unfolding all
@@ -184,11 +184,13 @@ module _ (f : Writer) (w : WritesBack f) (k : ℕ) (s : Short [] (empty k) []) w
   accepts-empty : f [] (empty k) [] textLimit .answer .number ≡ 0
   accepts-empty = w .accepts [] (empty k) [] textLimit s (omega arith)
 
-  reads-empty : (a : ReadAnswer) (ns′ ms′ : List ℕ) → Read itsText (zeros 3) [] a ns′ ms′ → (a .number ≡ 0) × (usedNodes a ns′ ≡ empty k)
-  reads-empty a ns′ ms′ r = let b = w .back [] (empty k) [] textLimit s accepts-empty (zeros 3) [] a ns′ ms′ (omega arith) (omega arith) r in (b .0, b .1)
+  reads-empty : (a : ReadAnswer) (ns′ ms′ : List ℕ) → Read itsText (zeros nodeWidth) [] a ns′ ms′ → (a .number ≡ 0) × (usedNodes a ns′ ≡ empty k)
+  unfolding flatRows flatMap
+  reads-empty a ns′ ms′ r = let b = w .back [] (empty k) [] textLimit s accepts-empty (zeros nodeWidth) [] a ns′ ms′ (omega arith) (omega arith) r in (b .0, b .1)
 
 pub no-fixed-text : NoWriter FixedText
-no-fixed-text f w bad = go _ _ _ (one-reader .0 .1 b (zeros 3) [])
+unfolding flatRows flatMap
+no-fixed-text f w bad = go _ _ _ (one-reader .0 .1 b (zeros nodeWidth) [])
   where
     b : List ℕ
     b = saidBy (f [] (empty kindPoint) [] textLimit)
@@ -196,7 +198,7 @@ no-fixed-text f w bad = go _ _ _ (one-reader .0 .1 b (zeros 3) [])
     same : b ≡ saidBy (f [] (empty kindLineString) [] textLimit)
     same = bad [] (empty kindPoint) [] [] (empty kindLineString) [] textLimit (accepts-empty f w kindPoint short-point) (accepts-empty f w kindLineString short-line)
 
-    go : (a : ReadAnswer) (ns′ ms′ : List ℕ) → Read b (zeros 3) [] a ns′ ms′ → ⊥
+    go : (a : ReadAnswer) (ns′ ms′ : List ℕ) → Read b (zeros nodeWidth) [] a ns′ ms′ → ⊥
     go a ns′ ms′ r =
         let p = reads-empty f w kindPoint short-point a ns′ ms′ r in
         let q = reads-empty f w kindLineString short-line a ns′ ms′ (rw same at r) in
@@ -233,7 +235,7 @@ no-empty-writer f w bad =
     let e = accepts-empty f w kindPoint short-point in
     let p = f [] (empty kindPoint) [] textLimit in
     let b : saidBy p ≡ take (p .answer .length) (zeros textLimit) = ap (take (p .answer .length)) (bad [] (empty kindPoint) [] textLimit e) in
-    let r = one-reader .0 .1 (saidBy p) (zeros 3) [] in
+    let r = one-reader .0 .1 (saidBy p) (zeros nodeWidth) [] in
     let q = reads-empty f w kindPoint short-point _ _ _ r in
-    let o = accepts (saidBy p) (zeros 3) [] _ _ _ r (q .0) in
-    silent (nodeRoom (zeros 3)) (numberRoom []) (p .answer .length) textLimit (o .rows) (o .spans) (ap (reading (nodeRoom (zeros 3)) (numberRoom [])) (sym b) ∙ o .is)
+    let o = accepts (saidBy p) (zeros nodeWidth) [] _ _ _ r (q .0) in
+    silent (nodeRoom (zeros nodeWidth)) (numberRoom []) (p .answer .length) textLimit (o .rows) (o .spans) (ap (reading (nodeRoom (zeros nodeWidth)) (numberRoom [])) (sym b) ∙ o .is)

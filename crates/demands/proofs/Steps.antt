@@ -25,7 +25,7 @@ use Rattle.tokenizer.specs.Stream.{open-tk, close-tk, comma-tk, none-tk, bad-tk
 use Rattle.tokenizer.proofs.Stream.{size-tl}
 use Rattle.grammar.specs.Asks.{P, ret, ask, look, bind, Ran, ran, run}
 use Rattle.grammar.specs.Tokens.{sortBad, sortOpen, sortClose, sortComma, sortNumber, sortWord, sortOf, placeOf, startOf, textOf, refusalAt}
-use Rattle.grammar.specs.Grammar.{Out, out, Got, ok, refused, halt, Head, opens, empty, wrong, refusal, andThen, fill, rowsUsed, items, closing, addNode, addNumber, number, thenNumber, ifAsked, coord, pointBody, opened, isEmptyTok, opening, opener, headerEnding, header, byName, childHead, rootHead, lineBody, parens, lineIn, lineOf, linesBody, polygonIn, polygonOf, polygonsBody, pointIn, barePoint, pointOf, pointsBody, multi, plain, geometryBy, childOf, collection, geometry, root}
+use Rattle.grammar.specs.Grammar.{Out, out, Got, ok, refused, halt, Head, opens, empty, wrong, refusal, andThen, fill, rowsUsed, items, closing, addNode, addNumber, number, thenNumber, ifAsked, coord, pointBody, opened, isEmptyTok, opening, opener, headerEnding, header, byName, childHead, rootHead, lineBody, parens, lineIn, lineOf, linesBody, polygonIn, polygonOf, polygonsBody, pointIn, barePoint, pointOf, pointsBody, multi, simple, geometryBy, childOf, collection, geometry, root}
 use Rattle.grammar.proofs.Asks.{after, run-bind, run-size}
 use Rattle.grammar.proofs.WellRead.{isKind, knownName, name-known}
 use Rattle.demands.specs.Steps.{Open, node, Due, root-due, part-due, header-due, paren-due, number-due, read-whole, NameDue, of-root, of-child, Child, child-ring, child-line, child-polygon, child-point, Axis, axis-x, axis-y, axis-z, axis-m, Came, begins, named-bare, named-joined, ending-taken, flat, nameless, paren-taken, empty-taken, point-begun, coord-begun, number-taken, coord-read, comma-taken, close-taken, parts-filled, collections, oneOf, Stopping, Refusing, no-node-row, no-bare-row, no-number-row, too-many, at-root, at-child, at-header, at-paren, at-number, at-closing, behind-refused, stands}
@@ -374,9 +374,9 @@ module _ (N M : ℕ) (s₀ : Str) where
           let e : k ≡ kindMultiPolygon = only k l h (eqb-false k 1 n1) (eqb-false k 2 n2) (eqb-false k 3 n3) (eqb-false k 4 n4) (eqb-false k 5 n5) (eqb-false k 7 n7) in
           opened-in os kindMultiPolygon d _ (polygons-body os d) o s (subst (λ (j : ℕ). At os (paren-due j d) o s) e c) w)
 
-      plain-in : (os : List Open) (k d : ℕ) → isKind k ≡ true → (eqb k kindGeometryCollection ≡ false) → Opened os k d (plain N M F k d)
-      unfolding plain
-      plain-in os k d i n7 o s c w =
+      simple-in : (os : List Open) (k d : ℕ) → isKind k ≡ true → (eqb k kindGeometryCollection ≡ false) → Opened os k d (simple N M F k d)
+      unfolding simple
+      simple-in os k d i n7 o s c w =
           either (eqb k kindPoint) (λ p. GotIn os (At os read-whole) (run p (tl s))) _ _ (λ e. point-in os d o s (subst (λ (j : ℕ). At os (paren-due j d) o s) (eqb-true k kindPoint e) c) w) λ n1.
           either (eqb k kindLineString) (λ p. GotIn os (At os read-whole) (run p (tl s))) _ _ (λ e. line-in os d o s (subst (λ (j : ℕ). At os (paren-due j d) o s) (eqb-true k kindLineString e) c) w) λ n2.
           either (eqb k kindPolygon) (λ p. GotIn os (At os read-whole) (run p (tl s))) _ _ (λ e. polygon-in os d o s (subst (λ (j : ℕ). At os (paren-due j d) o s) (eqb-true k kindPolygon e) c) w) λ n3.
@@ -386,7 +386,7 @@ module _ (N M : ℕ) (s₀ : Str) where
       unfolding geometryBy run
       geometry-in os C e o (opens-at {s = s} {k = k} {d = d} c i w) =
           either (eqb k kindGeometryCollection) (λ p. GotIn os (At os read-whole) (run p (tl s))) _ _ (λ b. e d o s (subst (λ (j : ℕ). At os (paren-due j d) o s) (eqb-true k kindGeometryCollection b) c) w)
-          λ n7. plain-in os k d i n7 o s c w
+          λ n7. simple-in os k d i n7 o s c w
       geometry-in os C e o (empty-at {s = s} {k = k} {d = d} c w) = empty-in os k d o s c w
       geometry-in os C e o (wrong-at r g) = (r, g)
 

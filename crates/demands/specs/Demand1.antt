@@ -29,9 +29,9 @@ use Rattle.refusals.specs.Refusals.{illFormedStore, noRoom}
 use Rattle.strict.specs.declared.StrictAnswer.{StrictAnswer}
 use Rattle.strict.specs.Rules.{noLetter}
 use Rattle.strict.specs.Strict.{answer}
-use Rattle.strict.specs.Outcome.{HoldsAt, Lowest}
+use Rattle.strict.specs.Outcome.{RulesHoldAt, Lowest}
 use Rattle.to_wkt.specs.declared.WriteAnswer.{WriteAnswer}
-use Rattle.to_wkt.specs.Canonical.{textOf}
+use Rattle.to_wkt.specs.Canonical.{writtenText}
 use Rattle.to_wkt.specs.Write.{accepted, refused, Written}
 use Rattle.demands.specs.Calls.{Read, usedNodes, usedNumbers, Checked, Inferring, Taken, LookedAt}
 use Rattle.demands.specs.Steps.{Came, read-whole}
@@ -93,8 +93,8 @@ WriteRefuses = (text nodes numbers : List ℕ) (room : ℕ) (r : WriteAnswer) (b
 -- when each is answered: "The writer tests 22, then 23." "an accepting one zeroes what lies after the text"
 pub data Writing (text nodes numbers : List ℕ) (room : ℕ) : WriteAnswer → List ℕ → Type 0 where
   no-store : wellFormed text nodes numbers ≡ false → Writing text nodes numbers room (refused illFormedStore) (zeros room)
-  too-long : wellFormed text nodes numbers ≡ true → room < length (textOf text nodes numbers) → Writing text nodes numbers room (refused noRoom) (zeros room)
-  fits : wellFormed text nodes numbers ≡ true → length (textOf text nodes numbers) ≤ room → Writing text nodes numbers room (accepted (length (textOf text nodes numbers))) (padded (textOf text nodes numbers) room)
+  too-long : wellFormed text nodes numbers ≡ true → room < length (writtenText text nodes numbers) → Writing text nodes numbers room (refused noRoom) (zeros room)
+  fits : wellFormed text nodes numbers ≡ true → length (writtenText text nodes numbers) ≤ room → Writing text nodes numbers room (accepted (length (writtenText text nodes numbers))) (padded (writtenText text nodes numbers) room)
 
 abbrev pub WriteAnswers : Type 0
 WriteAnswers = (text nodes numbers : List ℕ) (room : ℕ) (r : WriteAnswer) (bytes : List ℕ) → Written text nodes numbers room r bytes → Writing text nodes numbers room r bytes
@@ -107,10 +107,10 @@ OneChecked = (text nodes numbers : List ℕ) (r r′ : StrictAnswer) → Checked
 pub data Verdict (text nodes numbers : List ℕ) : StrictAnswer → Type 0 where
   ill-store : wellFormed text nodes numbers ≡ false → Verdict text nodes numbers (answer illFormedStore noLetter 0)
   -- all rules hold at every node
-  passes : {ms : List Met} → wellFormed text nodes numbers ≡ true → walkOf text nodes numbers ≡ some ms → All (HoldsAt text numbers) ms → Verdict text nodes numbers (answer 0 noLetter 0)
+  passes : {ms : List Met} → wellFormed text nodes numbers ≡ true → walkOf text nodes numbers ≡ some ms → All (RulesHoldAt text numbers) ms → Verdict text nodes numbers (answer 0 noLetter 0)
   -- the rule fails at the node of that row, none with a lower letter does, and before that node none fails
   fails : {letter : ℕ} (before : List Met) (v : Visit) (after : List Met) → wellFormed text nodes numbers ≡ true → walkOf text nodes numbers ≡ some (before ++ Node v ∷ after) →
-      All (HoldsAt text numbers) before → Lowest text numbers v letter → v .row < nodeRoom nodes → Verdict text nodes numbers (answer 0 letter (v .row))
+      All (RulesHoldAt text numbers) before → Lowest text numbers v letter → v .row < nodeRoom nodes → Verdict text nodes numbers (answer 0 letter (v .row))
 
 abbrev pub StrictAnswers : Type 0
 StrictAnswers = (text nodes numbers : List ℕ) (r : StrictAnswer) → Checked text nodes numbers r → Verdict text nodes numbers r

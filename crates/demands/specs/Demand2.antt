@@ -8,13 +8,13 @@ use lib.ListN.{length}
 use Rattle.limits.specs.Limits.{depthLimit}
 use Rattle.number.specs.Grammar.{Float}
 use Rattle.kinds.specs.Kinds.{kindMultiPoint, dimXY}
-use Rattle.store.specs.Rows.{kindAt, dimensionAt, partsAt, startAt, nodeRoom, numberRoom, flatRows, padded}
+use Rattle.store.specs.Rows.{kindAt, dimensionAt, partsAt, spanStartAt, nodeRoom, numberRoom, flatRows, padded}
 use Rattle.lists.specs.Lists.{All}
 use Rattle.grammar.specs.Answers.{Passes}
 use Rattle.grammar.specs.Edges.{Edge, reads, writes, edges}
 use Rattle.tree.specs.Tree.{Tree, Shape, rows, texts}
 use Rattle.wkt.specs.declared.ReadAnswer.{ReadAnswer}
-use Rattle.wkt.specs.Whole.{Leaves, rootIn}
+use Rattle.wkt.specs.Leaves.{Leaves, rootIn}
 use Rattle.to_wkt.specs.declared.WriteAnswer.{WriteAnswer}
 use Rattle.to_wkt.specs.Write.{accepted, Written}
 use Rattle.shape.specs.Store.{allTexts}
@@ -33,7 +33,7 @@ pub record IsTheTree (text : List ℕ) (a : ReadAnswer) (ns′ ms′ : List ℕ)
   pub its-rows : usedNodes a ns′ ≡ flatRows (rows depthLimit tree)
   pub its-texts : allTexts text (usedNumbers a ms′) ≡ texts depthLimit tree
 
--- "made-up node or number counts, by demand 2's tree" (as an edit of the code: wkt/made_up_count)
+-- "made-up node or number counts, by demand 2's tree" (as an edit of the code: wkt_c/made_up_count)
 abbrev pub Counted : Type 0
 Counted = (text ns ms : List ℕ) (a : ReadAnswer) (ns′ ms′ : List ℕ) → Read text ns ms a ns′ ms′ → a .number ≡ 0 → IsTheTree text a ns′ ms′
 
@@ -83,7 +83,7 @@ FixedTree f =
 abbrev pub FirstChildOnly : Reader → Type 0
 FirstChildOnly f =
     (text ns ms : List ℕ) → f text ns ms .answer .number ≡ 0 → kindAt (f text ns ms .nodes) 0 ≡ kindMultiPoint → dimensionAt (f text ns ms .nodes) 0 ≡ dimXY → partsAt (f text ns ms .nodes) 0 ≡ 2 →
-    (partsAt (f text ns ms .nodes) 2 ≡ 0) ⊎ (startAt (f text ns ms .numbers) 2 ≡ startAt (f text ns ms .numbers) 0)
+    (partsAt (f text ns ms .nodes) 2 ≡ 0) ⊎ (spanStartAt (f text ns ms .numbers) 2 ≡ spanStartAt (f text ns ms .numbers) 0)
 
 -- "is shut out by demand 2"
 abbrev pub ShutsOut : (Reader → Type 0) → Type 0

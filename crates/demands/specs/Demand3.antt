@@ -15,7 +15,7 @@ use Rattle.wkt.specs.declared.ReadAnswer.{ReadAnswer}
 use Rattle.shape.specs.Store.{allTexts, wellFormed}
 use Rattle.form.specs.Form.{Form, TreesEqual, TreesAgain, Entries, Back, OneTreeOneWriting}
 use Rattle.to_wkt.specs.declared.WriteAnswer.{WriteAnswer}
-use Rattle.to_wkt.specs.Canonical.{textOf}
+use Rattle.to_wkt.specs.Canonical.{writtenText}
 use Rattle.to_wkt.specs.Write.{accepted, Written}
 use Rattle.demands.specs.Calls.{Read, usedNodes, usedNumbers}
 
@@ -53,19 +53,19 @@ OneWritingByCalls = OneTreeOneWriting canonicalForm textEntries
 -- a well-formed store with a canonical text of at most 65,535 bytes
 pub record Short (text nodes numbers : List ℕ) : Type 0 where
   pub well : wellFormed text nodes numbers ≡ true
-  pub short : length (textOf text nodes numbers) ≤ textLimit
+  pub short : length (writtenText text nodes numbers) ≤ textLimit
 
 -- "the canonical texts are equal exactly when node rows are equal and number texts are equal, row by row"
 abbrev pub OneWriting : Type 0
 OneWriting =
     (text nodes numbers text′ nodes′ numbers′ : List ℕ) → Short text nodes numbers → Short text′ nodes′ numbers′ →
-    (textOf text nodes numbers ≡ textOf text′ nodes′ numbers′) ↔ ((nodes ≡ nodes′) × (allTexts text numbers ≡ allTexts text′ numbers′))
+    (writtenText text nodes numbers ≡ writtenText text′ nodes′ numbers′) ↔ ((nodes ≡ nodes′) × (allTexts text numbers ≡ allTexts text′ numbers′))
 
 -- "such a text, read with store room for the tree, is accepted, gives those node rows and number texts back, and is written again as the same bytes"
 abbrev pub ReadsBack : Type 0
 ReadsBack =
     (text nodes numbers ns ms : List ℕ) (a : ReadAnswer) (ns′ ms′ : List ℕ) → Short text nodes numbers → nodeRoom nodes ≤ nodeRoom ns → numberRoom numbers ≤ numberRoom ms →
-    Read (textOf text nodes numbers) ns ms a ns′ ms′ → Back canonicalForm textEntries text nodes numbers (textOf text nodes numbers) a ns′ ms′
+    Read (writtenText text nodes numbers) ns ms a ns′ ms′ → Back canonicalForm textEntries text nodes numbers (writtenText text nodes numbers) a ns′ ms′
 
 -- "every accepted reading's store is well formed"
 abbrev pub ReadWell : Type 0
@@ -80,10 +80,10 @@ NeverIll =
 -- "and reading, writing and reading again gives the same tree": the text is read and written, and what is written is read with room for the tree
 abbrev pub ReadsAgain : Type 0
 ReadsAgain =
-    (text ns ms : List ℕ) (a : ReadAnswer) (ns′ ms′ : List ℕ) → Read text ns ms a ns′ ms′ → a .number ≡ 0 → length (textOf text (usedNodes a ns′) (usedNumbers a ms′)) ≤ textLimit →
+    (text ns ms : List ℕ) (a : ReadAnswer) (ns′ ms′ : List ℕ) → Read text ns ms a ns′ ms′ → a .number ≡ 0 → length (writtenText text (usedNodes a ns′) (usedNumbers a ms′)) ≤ textLimit →
     (ps qs : List ℕ) (c : ReadAnswer) (ps′ qs′ : List ℕ) → nodeRoom (usedNodes a ns′) ≤ nodeRoom ps → numberRoom (usedNumbers a ms′) ≤ numberRoom qs →
-    Read (textOf text (usedNodes a ns′) (usedNumbers a ms′)) ps qs c ps′ qs′ →
-    (usedNodes c ps′ ≡ usedNodes a ns′) × (allTexts (textOf text (usedNodes a ns′) (usedNumbers a ms′)) (usedNumbers c qs′) ≡ allTexts text (usedNumbers a ms′))
+    Read (writtenText text (usedNodes a ns′) (usedNumbers a ms′)) ps qs c ps′ qs′ →
+    (usedNodes c ps′ ≡ usedNodes a ns′) × (allTexts (writtenText text (usedNodes a ns′) (usedNumbers a ms′)) (usedNumbers c qs′) ≡ allTexts text (usedNumbers a ms′))
 
 -- ---- what is shut out, "by demand 3's reading back"
 -- what a call leaves, and the bytes that it says it wrote; a writer, as a function of the text, the rows and the room

@@ -11,7 +11,7 @@ use lib.Seq.{drop-cons, take-all}
 use borrow.Author.Tests.{le-ltb, lt-ltb}
 use Rattle.scan.specs.Runs.{firstNot}
 use Rattle.scan.proofs.Runs.{not-before, not-past}
-use Rattle.explain.specs.Lines.{isBreak, goesOn, lineStart, breakCount, lineFrom, lineOf, trimmed, shownPlace}
+use Rattle.explain.specs.Lines.{isBreak, goesOn, lineStart, breakCount, lineFrom, numberedLine, trimmed, shownPlace}
 
 before : {i : ℕ} → 0 < i → suc (i - 1) ≡ i
 before h = omega arith
@@ -103,7 +103,7 @@ pub rest-is : (l : List ℕ) (i : ℕ) → take (length l - i) (drop i l) ≡ dr
 rest-is l i = take-all (length l - i) (drop i l) (simp length-drop (omega arith))
 
 -- the line from where it begins up to where the next one does
-pub line-is : (l : List ℕ) (n : ℕ) {start end : ℕ} → start ≡ lineFrom l n → end ≡ lineFrom (take (length l - start) (drop start l)) 1 → take (end - 0) (drop 0 (take (length l - start) (drop start l))) ≡ lineOf l n
+pub line-is : (l : List ℕ) (n : ℕ) {start end : ℕ} → start ≡ lineFrom l n → end ≡ lineFrom (take (length l - start) (drop start l)) 1 → take (end - 0) (drop 0 (take (length l - start) (drop start l))) ≡ numberedLine l n
 line-is l n {start} {end} e f =
     let g : end ≡ lineFrom (drop start l) 1 = rw (rest-is l start) at f in
     let z : end - 0 ≡ end = omega arith in

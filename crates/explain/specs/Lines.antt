@@ -32,8 +32,8 @@ lineFrom (b ∷ l) zero = 0
 lineFrom (b ∷ l) (suc n) = suc (lineFrom l (suc n - breakCount b))
 
 -- the line with the index n, with its end
-abbrev pub lineOf : List ℕ → ℕ → List ℕ
-lineOf l n = take (lineFrom (drop (lineFrom l n) l) 1) (drop (lineFrom l n) l)
+abbrev pub numberedLine : List ℕ → ℕ → List ℕ
+numberedLine l n = take (lineFrom (drop (lineFrom l n) l) 1) (drop (lineFrom l n) l)
 
 -- where the first p bytes end without the line ends behind them
 unfoldable pub trimmed : List ℕ → ℕ → ℕ

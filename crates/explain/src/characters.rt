@@ -87,7 +87,7 @@ fn put_one(out: &mut [u8], at: usize, bytes: &[u8], shown: Shown) -> usize
 }
 
 // The characters of a part of a line, or the blanks under them.
-pub fn put_part(out: &mut [u8], at: usize, part: &[u8], under: bool) -> usize
+pub(crate) fn put_part(out: &mut [u8], at: usize, part: &[u8], under: bool) -> usize
     ensures { λ r. ⌜ buffer (now (out .exit)) r ≡ putAllIn (pieces under (now (part .entry))) (buffer (now (out .entry)) at) ⌝ }
 {
     let mut end = at;

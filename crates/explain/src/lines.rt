@@ -20,7 +20,7 @@ fn goes_on(b: u8) -> bool
 }
 
 // Where the last line of `text` begins.
-pub fn line_start(text: &[u8]) -> usize
+pub(crate) fn line_start(text: &[u8]) -> usize
     ensures { λ r. ⌜ r ≡ lineStart (now (text .entry)) (length (now (text .entry))) ⌝ }
     ensures { λ r. ⌜ r ≤ length (now (text .entry)) ⌝ }
 {
@@ -35,7 +35,7 @@ pub fn line_start(text: &[u8]) -> usize
 }
 
 // Where the line that `place` stands in ends.
-pub fn line_end(text: &[u8], place: usize) -> usize
+pub(crate) fn line_end(text: &[u8], place: usize) -> usize
     ensures { λ r. ⌜ r ≡ firstNot isInLine (now (text .entry)) place ⌝ }
     ensures { λ r. ⌜ r ≤ length (now (text .entry)) ⌝ }
 {
@@ -50,7 +50,7 @@ pub fn line_end(text: &[u8], place: usize) -> usize
 }
 
 // Where the first character from `place` on begins.
-pub fn next_begin(text: &[u8], place: usize) -> usize
+pub(crate) fn next_begin(text: &[u8], place: usize) -> usize
     ensures { λ r. ⌜ r ≡ firstNot goesOn (now (text .entry)) place ⌝ }
     ensures { λ r. ⌜ r ≤ length (now (text .entry)) ⌝ }
 {
@@ -74,7 +74,7 @@ fn breaks(b: u8) -> usize
 }
 
 // Where the line with the index `number` begins, or the end.
-pub fn line_at(text: &[u8], number: usize) -> usize
+pub(crate) fn line_at(text: &[u8], number: usize) -> usize
     ensures { λ r. ⌜ r ≡ lineFrom (now (text .entry)) number ⌝ }
     ensures { λ r. ⌜ r ≤ length (now (text .entry)) ⌝ }
 {
@@ -107,7 +107,7 @@ fn trimmed_end(text: &[u8]) -> usize
 }
 
 // The place that is shown: that of the text's end is behind its last line, as a line end there begins no line.
-pub fn shown_place(text: &[u8], place: usize) -> usize
+pub(crate) fn shown_place(text: &[u8], place: usize) -> usize
     ensures { λ r. ⌜ r ≡ shownPlace (now (text .entry)) place ⌝ }
     ensures { λ r. ⌜ r ≤ length (now (text .entry)) ⌝ }
 {

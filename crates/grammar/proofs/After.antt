@@ -22,7 +22,7 @@ use Rattle.tokenizer.specs.Lex.{lex}
 use Rattle.lists.proofs.Cases.{either}
 use Rattle.grammar.specs.Asks.{P, ret, ask, look, bind, run, answerIn}
 use Rattle.grammar.specs.Tokens.{sortNone, sortOpen, sortClose, sortWord, sortOf, placeOf, textOf}
-use Rattle.grammar.specs.Grammar.{Out, out, Got, ok, refused, halt, Head, opens, empty, wrong, refusal, andThen, rowsUsed, closing, addNode, opened, isEmptyTok, opening, opener, headerEnding, header, byName, rootHead, lineIn, polygonIn, pointIn, multi, plain, geometryBy, collection, geometry, root}
+use Rattle.grammar.specs.Grammar.{Out, out, Got, ok, refused, halt, Head, opens, empty, wrong, refusal, andThen, rowsUsed, closing, addNode, opened, isEmptyTok, opening, opener, headerEnding, header, byName, rootHead, lineIn, polygonIn, pointIn, multi, simple, geometryBy, collection, geometry, root}
 use Rattle.grammar.specs.Reading.{enough, reading}
 use Rattle.grammar.specs.LastToken.{lastOf, lastToken, rootParts}
 use Rattle.grammar.specs.Answers.{Passes}
@@ -132,9 +132,9 @@ module _ (N M F : ℕ) where
       last-cond Ends (eqb k kindMultiPoint) z _ _ (λ e. opened-ends N kindMultiPoint d _ p o z) λ e.
       last-cond Ends (eqb k kindMultiLineString) z _ _ (λ f. opened-ends N kindMultiLineString d _ p o z) λ f. opened-ends N kindMultiPolygon d _ p o z
 
-  plain-ends : (k d p : ℕ) (o : Out) (z : Tok) → Last Ends z (plain N M F k d p o)
-  unfolding plain pointIn lineIn polygonIn
-  plain-ends k d p o z =
+  simple-ends : (k d p : ℕ) (o : Out) (z : Tok) → Last Ends z (simple N M F k d p o)
+  unfolding simple pointIn lineIn polygonIn
+  simple-ends k d p o z =
       last-cond Ends (eqb k kindPoint) z _ _ (λ e. opened-ends N kindPoint d _ p o z) λ e.
       last-cond Ends (eqb k kindLineString) z _ _ (λ f. opened-ends N kindLineString d _ p o z) λ f.
       last-cond Ends (eqb k kindPolygon) z _ _ (λ g. opened-ends N kindPolygon d _ p o z) λ g. multi-ends k d p o z
@@ -149,7 +149,7 @@ module _ (N M F : ℕ) where
 
   geometry-ends : (n : ℕ) (h : Head) (z : Tok) → HeadEnds h z → Last Ends z (geometry N M F n (out [] []) h)
   unfolding geometry geometryBy
-  geometry-ends n (opens k d p) z h = last-cond Ends (eqb k kindGeometryCollection) z _ _ (λ e. collection-ends n d p (out [] []) z) λ e. plain-ends k d p (out [] []) z
+  geometry-ends n (opens k d p) z h = last-cond Ends (eqb k kindGeometryCollection) z _ _ (λ e. collection-ends n d p (out [] []) z) λ e. simple-ends k d p (out [] []) z
   geometry-ends n (empty k d p) z h = node-ends p k d z h
   geometry-ends n (wrong r) z h = tt
 

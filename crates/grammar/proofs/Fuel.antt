@@ -30,7 +30,7 @@ use Rattle.lists.proofs.Cases.{either}
 use Rattle.tokenizer.proofs.Bridge.{toks-lex}
 use Rattle.grammar.specs.Asks.{P, ret, ask, look, bind, Ran, ran, run, answerIn, leftIn}
 use Rattle.grammar.specs.Tokens.{sortOpen, sortClose, sortComma, sortNumber, sortWord, sortOf, placeOf, startOf, textOf}
-use Rattle.grammar.specs.Grammar.{Out, out, Got, ok, refused, halt, Head, opens, empty, wrong, refusal, andThen, fill, rowsUsed, items, closing, addNode, addNumber, number, thenNumber, ifAsked, coord, pointBody, opened, isEmptyTok, opening, opener, headerEnding, header, byName, childHead, rootHead, lineBody, parens, lineIn, lineOf, linesBody, polygonIn, polygonOf, polygonsBody, pointIn, barePoint, pointOf, pointsBody, multi, plain, geometryBy, childOf, collection, geometry, root}
+use Rattle.grammar.specs.Grammar.{Out, out, Got, ok, refused, halt, Head, opens, empty, wrong, refusal, andThen, fill, rowsUsed, items, closing, addNode, addNumber, number, thenNumber, ifAsked, coord, pointBody, opened, isEmptyTok, opening, opener, headerEnding, header, byName, childHead, rootHead, lineBody, parens, lineIn, lineOf, linesBody, polygonIn, polygonOf, polygonsBody, pointIn, barePoint, pointOf, pointsBody, multi, simple, geometryBy, childOf, collection, geometry, root}
 use Rattle.grammar.specs.Reading.{enough, reading}
 use Rattle.lists.specs.Lists.{All}
 use Rattle.grammar.specs.Answers.{Passes, isRefusal, Refused, Halted, Kept}
@@ -295,16 +295,16 @@ module _ (text : List ℕ) (N M : ℕ) where
         (alike-cond GotIn L (eqb k kindMultiLineString) _ _ _ _ (opened-alike L kindMultiLineString d _ _ (lines-body d) p l o a)
         (opened-alike L kindMultiPolygon d _ _ (polygons-body d) p l o a))
 
-    plain-alike : (k d : ℕ) → Opened L (plain N M F k d) (plain N M F′ k d)
-    unfolding plain Opened Part
-    plain-alike k d p l o a =
+    simple-alike : (k d : ℕ) → Opened L (simple N M F k d) (simple N M F′ k d)
+    unfolding simple Opened Part
+    simple-alike k d p l o a =
         alike-cond GotIn L (eqb k kindPoint) _ _ _ _ (point-in d p l o a)
         (alike-cond GotIn L (eqb k kindLineString) _ _ _ _ (line-in d p l o a)
         (alike-cond GotIn L (eqb k kindPolygon) _ _ _ _ (polygon-in d p l o a) (multi-alike k d p l o a)))
 
     geometry-alike : (C C′ : ℕ → ℕ → Out → P Got) → ((d : ℕ) → Opened L (C d) (C′ d)) → (o : Out) → OutIn o → (x : Head) → HeadIn x → Alike GotIn L (geometryBy N M F C o x) (geometryBy N M F′ C′ o x)
     unfolding geometryBy Opened Part
-    geometry-alike C C′ e o a (opens k d p) l = alike-cond GotIn L (eqb k kindGeometryCollection) _ _ _ _ (e d p l o a) (plain-alike k d p l o a)
+    geometry-alike C C′ e o a (opens k d p) l = alike-cond GotIn L (eqb k kindGeometryCollection) _ _ _ _ (e d p l o a) (simple-alike k d p l o a)
     geometry-alike C C′ e o a (empty k d p) l = alike-ret GotIn L _ (node-in L o p k d l a)
     geometry-alike C C′ e o a (wrong r) l = alike-ret GotIn L _ l
 

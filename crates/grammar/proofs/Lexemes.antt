@@ -14,7 +14,7 @@ use Rattle.scan.proofs.Bytes.{or-elim, digit-high, digit-inner, sign-inner, poi
 use Rattle.words.specs.Words.{sameWord}
 use Rattle.scan.specs.Front.{begins, afterOne, afterAll}
 use Rattle.number.specs.Lexeme.{isE, inf, infinity, nan, isNamed, isDecimal, isUnsigned, isLexeme}
-use Rattle.number.specs.Grammar.{One, one, both, _or_, this, that, Maybe, absent, present, named, Digits1, Exp, Number, Float}
+use Rattle.number.specs.Grammar.{OneByte, one, both, _or_, this, that, Maybe, absent, present, named, Digits1, Exp, Number, Float}
 use Rattle.number.proofs.Equal.{sound}
 use Rattle.names.specs.Letters.{isLetter}
 use Rattle.lists.specs.Lists.{every}
@@ -56,11 +56,11 @@ join : (x y : List ℕ) → Bytes x → Bytes y → Bytes (x ++ y)
 join x y a b = every-join isNumberByte x y a b
 
 module _ (p : ℕ → Bool) (h : (b : ℕ) → p b ≡ true → isNumberByte b ≡ true) where
-  one-bytes : {l : List ℕ} → One p l → Bytes l
+  one-bytes : {l : List ℕ} → OneByte p l → Bytes l
   unfolding every
   one-bytes (one {b = b} e) = rw (h b e)
 
-  maybe-bytes : {l : List ℕ} → Maybe (One p) l → Bytes l
+  maybe-bytes : {l : List ℕ} → Maybe (OneByte p) l → Bytes l
   unfolding every
   maybe-bytes absent = refl
   maybe-bytes (present o) = one-bytes o

@@ -25,7 +25,7 @@ use Rattle.tokenizer.specs.Stream.{word-tk, tok, Str, then, hd, tl, size}
 use Rattle.tokenizer.specs.Lex.{lex}
 use Rattle.grammar.specs.Asks.{P, ret, ask, look, bind, ran, run, answerIn}
 use Rattle.grammar.specs.Tokens.{sortClose, sortComma, sortOf}
-use Rattle.grammar.specs.Grammar.{Out, out, Got, ok, opens, empty, wrong, refusal, andThen, items, closing, addNode, number, thenNumber, ifAsked, coord, pointBody, opened, opening, opener, headerEnding, header, byName, childHead, rootHead, lineBody, parens, lineIn, lineOf, linesBody, polygonIn, polygonOf, polygonsBody, pointIn, pointOf, pointsBody, multi, plain, geometryBy, childOf, collection, geometry, root}
+use Rattle.grammar.specs.Grammar.{Out, out, Got, ok, opens, empty, wrong, refusal, andThen, items, closing, addNode, number, thenNumber, ifAsked, coord, pointBody, opened, opening, opener, headerEnding, header, byName, childHead, rootHead, lineBody, parens, lineIn, lineOf, linesBody, polygonIn, polygonOf, polygonsBody, pointIn, pointOf, pointsBody, multi, simple, geometryBy, childOf, collection, geometry, root}
 use Rattle.lists.specs.Lists.{All}
 use Rattle.tree.specs.Tree.{Coord, Node, pointN, lineN, polygonN, multipointN, multilineN, multipolygonN, collectionN, Tree, rowsWith, noRows, pointRows, lineRows, polygonRows, nodeRows, rows, coordTexts, lineTexts, polygonTexts, nodeTexts, noTexts, texts, IsDimension, CoordShape, LineShape, PolygonShape, NodeShape, NoShape, Shape, Lexeme, GoodTree}
 use Rattle.canonical_text.specs.Canonical.{spell, putSpelled, each, separated, putCoord, putParts, putNamed, stringOf, putDimension, putWith, putPoint, putLine, putPolygon, putGeometry, putNothing, putTree}
@@ -467,7 +467,7 @@ module _ (N M F : ℕ) where
   module _ {X : Type 0} (f : X → List ℕ → List ℕ) (ro : X → List Row) (nu : X → List (List ℕ)) (Q : X → Type 0) (C : ℕ → ℕ → Out → P Got)
       (coll : (d : ℕ) (ts : List X) → All Q ts → All Lexeme (flatMap nu ts) → InBack f ro nu kindGeometryCollection d (C d) ts) where
     node-back : (t : Node X) → NodeShape Q t → All Lexeme (nodeTexts nu t) → OneBack (putGeometry f) (nodeRows ro) (nodeTexts nu) (childOf N M F C) t
-    unfolding OneBack geometryBy plain multi pointIn lineIn lineBody polygonIn
+    unfolding OneBack geometryBy simple multi pointIn lineIn lineBody polygonIn
     node-back (pointN d cs) g l = named-back putCoord noRows coordTexts kindPoint d C (seven .0) (g .0) cs (at-most-one d cs (g .1) (g .2) l)
     node-back (lineN d cs) g l = named-back putCoord noRows coordTexts kindLineString d C (seven .1) (g .0) cs (in-line d kindLineString cs (g .1) l)
     node-back (polygonN d ls) g l = named-back putLine (lineRows d) lineTexts kindPolygon d C (seven .2) (g .0) ls (in-lines d kindPolygon ls (g .1) l)

@@ -25,7 +25,7 @@ use Rattle.tokenizer.specs.Lex.{lex}
 use Rattle.lists.proofs.Cases.{either}
 use Rattle.grammar.specs.Asks.{P, ret, ask, look, bind, run, answerIn}
 use Rattle.grammar.specs.Tokens.{sortOpen, sortClose, sortComma, sortNumber, sortWord, sortOf, placeOf, startOf, textOf}
-use Rattle.grammar.specs.Grammar.{Out, out, Got, ok, refused, halt, Head, opens, empty, wrong, andThen, fill, items, closing, addNode, takeNumber, number, thenNumber, ifAsked, coord, pointBody, opened, isEmptyTok, opening, opener, headerEnding, header, byName, childHead, rootHead, lineBody, parens, lineIn, lineOf, linesBody, polygonIn, polygonOf, polygonsBody, pointIn, barePoint, pointOf, pointsBody, multi, plain, geometryBy, childOf, collection, geometry, root}
+use Rattle.grammar.specs.Grammar.{Out, out, Got, ok, refused, halt, Head, opens, empty, wrong, andThen, fill, items, closing, addNode, takeNumber, number, thenNumber, ifAsked, coord, pointBody, opened, isEmptyTok, opening, opener, headerEnding, header, byName, childHead, rootHead, lineBody, parens, lineIn, lineOf, linesBody, polygonIn, polygonOf, polygonsBody, pointIn, barePoint, pointOf, pointsBody, multi, simple, geometryBy, childOf, collection, geometry, root}
 use Rattle.grammar.specs.Reading.{enough, reading}
 use Rattle.lists.specs.Lists.{All}
 use Rattle.tree.specs.Tree.{Coord, Node, pointN, lineN, polygonN, multipointN, multilineN, multipolygonN, collectionN, rowsWith, noRows, pointRows, lineRows, polygonRows, nodeRows, rows, coordTexts, lineTexts, polygonTexts, nodeTexts, noTexts, texts, IsDimension, CoordShape, LineShape, PolygonShape, NodeShape, NoShape, Shape}
@@ -413,9 +413,9 @@ module _ (N M F : ℕ) where
           every-cond (Of (Added (nodeRows ro) (nodeTexts nu) (NodeShape Q) rs ss)) (eqb k kindMultiPoint) _ _ (multipoint-node rs ss)
           (every-cond (Of (Added (nodeRows ro) (nodeTexts nu) (NodeShape Q) rs ss)) (eqb k kindMultiLineString) _ _ (multiline-node rs ss) (multipolygon-node rs ss))
 
-      plain-node : (k : ℕ) → Nodes (plain N M F k d p)
-      unfolding plain Adds
-      plain-node k rs ss =
+      simple-node : (k : ℕ) → Nodes (simple N M F k d p)
+      unfolding simple Adds
+      simple-node k rs ss =
           every-cond (Of (Added (nodeRows ro) (nodeTexts nu) (NodeShape Q) rs ss)) (eqb k kindPoint) _ _ (point-node rs ss)
           (every-cond (Of (Added (nodeRows ro) (nodeTexts nu) (NodeShape Q) rs ss)) (eqb k kindLineString) _ _ (line-node rs ss)
           (every-cond (Of (Added (nodeRows ro) (nodeTexts nu) (NodeShape Q) rs ss)) (eqb k kindPolygon) _ _ (polygon-node rs ss) (multi-node k rs ss)))
@@ -439,7 +439,7 @@ module _ (N M F : ℕ) where
     node-adds : (h : Head) → Known h → Nodes (λ o. geometryBy N M F C o h)
     unfolding geometryBy Adds
     node-adds (opens k d p) e rs ss =
-        every-cond (Of (Added (nodeRows ro) (nodeTexts nu) (NodeShape Q) rs ss)) (eqb k kindGeometryCollection) _ _ (collection-node d (leb-true d 3 e) p rs ss) (plain-node d (leb-true d 3 e) p k rs ss)
+        every-cond (Of (Added (nodeRows ro) (nodeTexts nu) (NodeShape Q) rs ss)) (eqb k kindGeometryCollection) _ _ (collection-node d (leb-true d 3 e) p rs ss) (simple-node d (leb-true d 3 e) p k rs ss)
     node-adds (empty k d p) e rs ss =
         let z = empty-node k d (e .0) (leb-true d 3 (e .1)) in
         either (ltb (length rs) N) (Of (Added (nodeRows ro) (nodeTexts nu) (NodeShape Q) rs ss)) _ _

@@ -12,11 +12,11 @@ use Rattle.number.specs.Lexeme.{isNamed, isDigits, isExponent, isDecimal, isUns
 use Rattle.kinds.specs.Kinds.{kindPoint, kindLineString, kindPolygon, kindMultiPoint, kindMultiLineString, kindMultiPolygon, kindGeometryCollection, dimXY, dimXYZ, dimXYM, dimXYZM}
 use Rattle.lists.specs.Lists.{every}
 use Rattle.names.specs.Names.{spellings, lookup, meaning, ending}
-use Rattle.store.specs.Rows.{Row, row, Span, span, closeIn}
+use Rattle.store.specs.Rows.{Row, nodeOver, Span, span, closeIn}
 use Rattle.tokenizer.specs.Lex.{markTk, numberTk, runTk, flush, push, lexByte, lexRun, lex}
-use Rattle.utf8.specs.Utf8.{table, fits, firstFit, width, walk, firstIll}
+use Rattle.utf8.specs.Utf8.{table, fits, firstFit, charWidth, walk, firstIll}
 use Rattle.grammar.specs.Asks.{bind, run}
-use Rattle.grammar.specs.Grammar.{Got, ok, refused, halt, out, refusal, andThen, items, closing, number, thenNumber, ifAsked, coord, pointBody, opened, opening, opener, header, childHead, rootHead, lineBody, parens, lineIn, lineOf, linesBody, polygonIn, polygonOf, polygonsBody, pointIn, barePoint, pointOf, pointsBody, multi, plain, geometryBy, childOf, collection, geometry, root}
+use Rattle.grammar.specs.Grammar.{Got, ok, refused, halt, out, refusal, andThen, items, closing, number, thenNumber, ifAsked, coord, pointBody, opened, opening, opener, header, childHead, rootHead, lineBody, parens, lineIn, lineOf, linesBody, polygonIn, polygonOf, polygonsBody, pointIn, barePoint, pointOf, pointsBody, multi, simple, geometryBy, childOf, collection, geometry, root}
 use Rattle.grammar.specs.Reading.{reading, treeRead}
 use Rattle.kinds.specs.Kinds as kinds
 use Rattle.tree.specs.TreeIn as tree
@@ -44,12 +44,20 @@ kyo = 0xE4 ∷ 0xBA ∷ 0xAC ∷ []
 abbrev pub nodes : List Row → List Span → Got
 nodes rs ss = ok (out rs ss)
 
+-- the row of a node with no rows under it; and collections, each the one child of that before it, over rows
+abbrev pub leaf : ℕ → ℕ → ℕ → List Row
+leaf k d n = nodeOver k d n []
+
+abbrev pub nested : ℕ → List Row → List Row
+nested zero under = under
+nested (suc n) under = nodeOver kindGeometryCollection dimXY 1 (nested n under)
+
 -- the rows of a point, and of a multipoint of two points
 abbrev pub onePoint : List Row
-onePoint = row kindPoint dimXY 1 ∷ []
+onePoint = leaf kindPoint dimXY 1
 
 abbrev pub twoPoints : List Row
-twoPoints = row kindMultiPoint dimXY 2 ∷ row kindPoint dimXY 1 ∷ row kindPoint dimXY 1 ∷ []
+twoPoints = nodeOver kindMultiPoint dimXY 2 (onePoint ++ onePoint)
 
 unfoldable pub edges : List Edge
 edges =
@@ -66,25 +74,25 @@ edges =
     (nodes twoPoints (span 12 1 (bytes "1") ∷ span 14 1 (bytes "2") ∷ span 17 1 (bytes "3") ∷ span 19 1 (bytes "4") ∷ []))
     ∷ reads 40 9 (bytes "POINTZ Z(1 2 3)") (refused (refusal 12 7))
     ∷ reads 40 9 (bytes "GEOMETRYCOLLECTION Z(POINT(1 2))")
-    (nodes (row kindGeometryCollection dimXYZ 1 ∷ row kindPoint dimXY 1 ∷ []) (span 27 1 (bytes "1") ∷ span 29 1 (bytes "2") ∷ []))
+    (nodes (nodeOver kindGeometryCollection dimXYZ 1 onePoint) (span 27 1 (bytes "1") ∷ span 29 1 (bytes "2") ∷ []))
     ∷ reads 40 9 (bytes "MULTIPOINT(1 2,EMPTY)") (refused (refusal 14 15))
     ∷ reads 40 9 (bytes "LINEARRINGZ(1 2 3)") (refused (refusal 9 0))
-    ∷ reads 40 9 (bytes "LINEARRING Z(1 2 3)") (nodes (row kindLineString dimXYZ 1 ∷ []) (span 13 1 (bytes "1") ∷ span 15 1 (bytes "2") ∷ span 17 1 (bytes "3") ∷ []))
+    ∷ reads 40 9 (bytes "LINEARRING Z(1 2 3)") (nodes (leaf kindLineString dimXYZ 1) (span 13 1 (bytes "1") ∷ span 15 1 (bytes "2") ∷ span 17 1 (bytes "3") ∷ []))
     ∷ reads 40 9 (bytes "GEOMETRYCOLLECTION(" ++ kyo ++ bytes ")") (refused (refusal 9 19))
     ∷ reads 40 9 (bytes "GEOMETRYCOLLECTION(" ++ kyo ++ bytes "(1 2))") (refused (refusal 13 22))
     ∷ reads 40 9 (repeated 32 (bytes "GEOMETRYCOLLECTION(") ++ bytes "POINT EMPTY" ++ repeated 32 (bytes ")"))
-    (nodes (repeated 32 (row kindGeometryCollection dimXY 1 ∷ []) ++ row kindPoint dimXY 0 ∷ []) [])
+    (nodes (nested 32 (leaf kindPoint dimXY 0)) [])
     ∷ reads 40 9 (repeated 33 (bytes "GEOMETRYCOLLECTION(")) (halt (refusal 5 626))
     ∷ reads 32 9 (repeated 33 (bytes "GEOMETRYCOLLECTION(")) (halt (refusal 5 626))
     ∷ reads 0 9 (bytes "POINT(1 2)") (halt (refusal 3 5))
     ∷ reads 40 1 (bytes "POINT(1 2)") (halt (refusal 4 8))
     ∷ reads 1 9 (bytes "MULTIPOINT()") (halt (refusal 3 11))
     ∷ reads 40 9 (bytes "polygon((1 2,-inf +nan),empty)")
-    (nodes (row kindPolygon dimXY 2 ∷ row kindLineString dimXY 2 ∷ row kindLineString dimXY 0 ∷ []) (span 9 1 (bytes "1") ∷ span 11 1 (bytes "2") ∷ span 13 4 (bytes "-inf") ∷ span 19 3 (bytes "nan") ∷ []))
+    (nodes (nodeOver kindPolygon dimXY 2 (leaf kindLineString dimXY 2 ++ leaf kindLineString dimXY 0)) (span 9 1 (bytes "1") ∷ span 11 1 (bytes "2") ∷ span 13 4 (bytes "-inf") ∷ span 19 3 (bytes "nan") ∷ []))
     ∷ reads 40 9 (bytes "MULTILINESTRING M((1 2 3),EMPTY)")
-    (nodes (row kindMultiLineString dimXYM 2 ∷ row kindLineString dimXYM 1 ∷ row kindLineString dimXYM 0 ∷ []) (span 19 1 (bytes "1") ∷ span 21 1 (bytes "2") ∷ span 23 1 (bytes "3") ∷ []))
+    (nodes (nodeOver kindMultiLineString dimXYM 2 (leaf kindLineString dimXYM 1 ++ leaf kindLineString dimXYM 0)) (span 19 1 (bytes "1") ∷ span 21 1 (bytes "2") ∷ span 23 1 (bytes "3") ∷ []))
     ∷ reads 40 9 (bytes "MULTIPOLYGON ZM(((1 2 3 4)),EMPTY)")
-    (nodes (row kindMultiPolygon dimXYZM 2 ∷ row kindPolygon dimXYZM 1 ∷ row kindLineString dimXYZM 1 ∷ row kindPolygon dimXYZM 0 ∷ []) (span 18 1 (bytes "1") ∷ span 20 1 (bytes "2") ∷ span 22 1 (bytes "3") ∷ span 24 1 (bytes "4") ∷ []))
+    (nodes (nodeOver kindMultiPolygon dimXYZM 2 (nodeOver kindPolygon dimXYZM 1 (leaf kindLineString dimXYZM 1) ++ leaf kindPolygon dimXYZM 0)) (span 18 1 (bytes "1") ∷ span 20 1 (bytes "2") ∷ span 22 1 (bytes "3") ∷ span 24 1 (bytes "4") ∷ []))
     ∷ reads 40 9 (kyo ++ bytes "(1 2)") (refused (refusal 7 0))
     ∷ reads 40 9 (bytes "+x(1 2)") (refused (refusal 6 0))
     ∷ reads 40 9 (0xE4 ∷ 0xBA ∷ []) (refused (refusal 2 0))
@@ -105,7 +113,7 @@ edges =
 
 -- all that a reading computes with
 unfoldable pub all : ℕ
-unfolding begins afterOne afterAll isNil sameWord isNamed isDigits isExponent isDecimal isUnsigned isLexeme every flatMap spellings lookup meaning ending closeIn markTk numberTk runTk flush push lexByte lexRun lex table fits firstFit width walk firstIll bind run andThen items closing number thenNumber ifAsked coord pointBody opened opening opener header childHead rootHead lineBody parens lineIn lineOf linesBody polygonIn polygonOf polygonsBody pointIn barePoint pointOf pointsBody multi plain geometryBy childOf collection geometry root reading All
+unfolding begins afterOne afterAll isNil sameWord isNamed isDigits isExponent isDecimal isUnsigned isLexeme every flatMap spellings lookup meaning ending closeIn markTk numberTk runTk flush push lexByte lexRun lex table fits firstFit charWidth walk firstIll bind run andThen items closing number thenNumber ifAsked coord pointBody opened opening opener header childHead rootHead lineBody parens lineIn lineOf linesBody polygonIn polygonOf polygonsBody pointIn barePoint pointOf pointsBody multi simple geometryBy childOf collection geometry root reading All
 all = 0
 
 -- and what its writing again does besides

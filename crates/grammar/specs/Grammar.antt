@@ -204,8 +204,8 @@ module _ (N M F : ℕ) where
       (opened N kindMultiPolygon d (polygonsBody d) p o))
 
   -- a geometry of kinds 1 to 6 whose `(` was taken at p
-  unfoldable pub plain : ℕ → ℕ → ℕ → Out → P Got
-  plain k d p o =
+  unfoldable pub simple : ℕ → ℕ → ℕ → Out → P Got
+  simple k d p o =
       cond (eqb k kindPoint) (pointIn d p o)
       (cond (eqb k kindLineString) (lineIn d p o)
       (cond (eqb k kindPolygon) (polygonIn d p o)
@@ -213,7 +213,7 @@ module _ (N M F : ℕ) where
 
   -- a geometry after its name, where C reads a collection
   unfoldable pub geometryBy : (ℕ → ℕ → Out → P Got) → Out → Head → P Got
-  geometryBy C o (opens k d p) = cond (eqb k kindGeometryCollection) (C d p o) (plain k d p o)
+  geometryBy C o (opens k d p) = cond (eqb k kindGeometryCollection) (C d p o) (simple k d p o)
   geometryBy C o (empty k d p) = ret (addNode N o p k d)
   geometryBy C o (wrong r) = ret (refused r)
 

@@ -11,13 +11,13 @@ use Rattle.number.specs.Lexeme.{isNamed, isDigits, isExponent, isDecimal, isUns
 use Rattle.kinds.specs.Kinds.{kindPoint, kindGeometryCollection, dimXY}
 use Rattle.lists.specs.Lists.{every, All}
 use Rattle.names.specs.Names.{spellings, lookup, meaning, ending}
-use Rattle.store.specs.Rows.{row, span, closeIn}
+use Rattle.store.specs.Rows.{nodeOver, span, closeIn}
 use Rattle.tokenizer.specs.Lex.{markTk, numberTk, runTk, flush, push, lexByte, lexRun, lex}
-use Rattle.utf8.specs.Utf8.{table, fits, firstFit, width, walk, firstIll}
+use Rattle.utf8.specs.Utf8.{table, fits, firstFit, charWidth, walk, firstIll}
 use Rattle.grammar.specs.Asks.{bind, run}
-use Rattle.grammar.specs.Grammar.{refused, halt, refusal, andThen, items, closing, number, thenNumber, ifAsked, coord, pointBody, opened, opening, opener, header, childHead, rootHead, lineBody, parens, lineIn, lineOf, linesBody, polygonIn, polygonOf, polygonsBody, pointIn, barePoint, pointOf, pointsBody, multi, plain, geometryBy, childOf, collection, geometry, root}
+use Rattle.grammar.specs.Grammar.{refused, halt, refusal, andThen, items, closing, number, thenNumber, ifAsked, coord, pointBody, opened, opening, opener, header, childHead, rootHead, lineBody, parens, lineIn, lineOf, linesBody, polygonIn, polygonOf, polygonsBody, pointIn, barePoint, pointOf, pointsBody, multi, simple, geometryBy, childOf, collection, geometry, root}
 use Rattle.grammar.specs.Reading.{reading}
-use Rattle.grammar.specs.Edges.{Edge, reads, Holds, repeated, kyo, nodes, onePoint}
+use Rattle.grammar.specs.Edges.{Edge, reads, Holds, repeated, kyo, nodes, leaf, nested, onePoint}
 
 -- 🌍
 abbrev pub earth : List ℕ
@@ -144,9 +144,9 @@ refusals =
     ∷ reads 40 9 (bytes "GEOMETRYCOLLECTION(" ++ repeated 33 (bytes "GEOMETRYCOLLECTION(POINT EMPTY),") ++ bytes "POINT EMPTY)")
     (halt (refusal 3 652))
     ∷ reads 80 9 (bytes "GEOMETRYCOLLECTION(" ++ repeated 33 (bytes "GEOMETRYCOLLECTION(POINT EMPTY),") ++ bytes "POINT EMPTY)")
-    (nodes (row kindGeometryCollection dimXY 34 ∷ repeated 33 (row kindGeometryCollection dimXY 1 ∷ row kindPoint dimXY 0 ∷ []) ++ row kindPoint dimXY 0 ∷ []) [])
+    (nodes (nodeOver kindGeometryCollection dimXY 34 (repeated 33 (nested 1 (leaf kindPoint dimXY 0)) ++ leaf kindPoint dimXY 0)) [])
     ∷ reads 80 9 (repeated 32 (bytes "GEOMETRYCOLLECTION(") ++ bytes "GEOMETRYCOLLECTION EMPTY" ++ repeated 32 (bytes ")"))
-    (nodes (repeated 32 (row kindGeometryCollection dimXY 1 ∷ []) ++ row kindGeometryCollection dimXY 0 ∷ []) [])
+    (nodes (nested 32 (leaf kindGeometryCollection dimXY 0)) [])
     ∷ reads 80 9 (repeated 32 (bytes "GEOMETRYCOLLECTION(") ++ bytes "GEOMETRYCOLLECTION (") (halt (refusal 5 627))
     ∷ reads 0 9 (bytes "GEOMETRYCOLLECTION(") (halt (refusal 3 18))
     -- 2 before all that is met, and 1 before 2: characters of four bytes; 65,536 and 65,537 bytes that are no UTF-8
@@ -161,7 +161,7 @@ refusals =
 
 -- all that a reading computes with
 all : ℕ
-unfolding begins afterOne afterAll isNil sameWord isNamed isDigits isExponent isDecimal isUnsigned isLexeme every flatMap spellings lookup meaning ending closeIn markTk numberTk runTk flush push lexByte lexRun lex table fits firstFit width walk firstIll bind run andThen items closing number thenNumber ifAsked coord pointBody opened opening opener header childHead rootHead lineBody parens lineIn lineOf linesBody polygonIn polygonOf polygonsBody pointIn barePoint pointOf pointsBody multi plain geometryBy childOf collection geometry root reading All
+unfolding begins afterOne afterAll isNil sameWord isNamed isDigits isExponent isDecimal isUnsigned isLexeme every flatMap spellings lookup meaning ending closeIn markTk numberTk runTk flush push lexByte lexRun lex table fits firstFit charWidth walk firstIll bind run andThen items closing number thenNumber ifAsked coord pointBody opened opening opener header childHead rootHead lineBody parens lineIn lineOf linesBody polygonIn polygonOf polygonsBody pointIn barePoint pointOf pointsBody multi simple geometryBy childOf collection geometry root reading All
 all = 0
 
 pub every-refusal : All Holds refusals

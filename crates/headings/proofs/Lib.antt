@@ -1,3 +1,4 @@
+pub mod Runs
 pub mod Heads
 pub mod Ascii
 pub mod OneOutcome

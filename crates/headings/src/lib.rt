@@ -10,15 +10,18 @@ use refusals::NOT_OPENED;
 use refusals::UNKNOWN_HEADER;
 use refusals::UNKNOWN_NAME;
 use sorts::OPEN;
+use sorts::Taken;
 use sorts::WORD;
 use tokenizer::Cursor;
 use tokenizer::Refusal;
 ghost use mathlib.Core.Path.{_≡_};
+ghost use Prim.Native.Nat.{_+_, _≤_};
+ghost use lib.ListN.{length};
 ghost use Rattle.scan.specs.Bytes.{isAscii};
 ghost use Rattle.lists.specs.Lists.{every};
-ghost use Rattle.tokenizer.specs.Stream.{stream};
+ghost use Rattle.tokenizer.specs.Tokens.{cursorAt};
 ghost use Rattle.grammar.specs.Grammar.{opener, header, byName, childHead, rootHead};
-ghost use Rattle.headings.specs.Heads.{MetHead};
+ghost use Rattle.headings.specs.Heads.{MetHead, emptyAt};
 
 // `(` or EMPTY, with the kind, the dimension, its place and the place behind it, where nothing is held; or a refusal.
 pub enum Head {
@@ -27,42 +30,57 @@ pub enum Head {
     Wrong(Refusal, Cursor),
 }
 
-// `(` or EMPTY.
-pub fn opener(text: &[u8], kind: u32, dimension: u32, cursor: Cursor) -> Head
-    ensures { λ r. ⌜ MetHead (now (text .entry)) (opener kind dimension) (stream (now (text .entry)) cursor) r ⌝ }
+// EMPTY, where `token` was taken and is not `(`.
+fn empty(text: &[u8], kind: u32, dimension: u32, token: Taken) -> Head
+    requires { ⌜ token .start + token .len ≤ length (now text) ⌝ }
+    ensures { λ r. ⌜ r ≡ emptyAt (now (text .entry)) kind dimension token ⌝ }
 {
-    let token = sorts::take(text, cursor);
-    let next = token.next;
-    if token.sort == OPEN {
-        return Head::Opens(kind, dimension, token.place, next.at);
-    }
     if token.sort != WORD {
         return Head::Wrong(
             sorts::refusal_at(text, NOT_OPENED, token.sort, token.place),
-            next,
+            Cursor::new(token.at),
         );
     }
     let start = token.start;
     let end = start + token.len;
     if names::is_empty_word(&text[start..end]) {
-        Head::Empty(kind, dimension, token.place, next.at)
+        Head::Empty(kind, dimension, token.place, token.at)
     } else {
         Head::Wrong(
             Refusal {
                 number: NOT_OPENED,
                 place: token.place,
             },
-            next,
+            Cursor::new(token.at),
         )
     }
 }
 
-// What follows a bare name: a dimension's word is taken, any other token is only looked at.
-fn header(text: &[u8], kind: u32, cursor: Cursor) -> Head
-    ensures { λ r. ⌜ MetHead (now (text .entry)) (header kind) (stream (now (text .entry)) cursor) r ⌝ }
+// `(` or EMPTY.
+pub fn opener(text: &[u8], kind: u32, dimension: u32, at: usize) -> Head
+    ensures { λ r. ⌜ MetHead (now (text .entry)) (opener kind dimension) (cursorAt at) r ⌝ }
 {
-    let token = sorts::look(text, cursor);
-    let here = token.next;
+    let cursor = Cursor::new(at);
+    let opened = cursor.pass_open(text);
+    let here = opened.next;
+    if opened.opens {
+        return Head::Opens(kind, dimension, opened.place, here.at);
+    }
+    empty(text, kind, dimension, sorts::take(text, here))
+}
+
+// What follows a bare name: a dimension's word is taken, any other token is only looked at.
+fn header(text: &[u8], kind: u32, at: usize) -> Head
+    ensures { λ r. ⌜ MetHead (now (text .entry)) (header kind) (cursorAt at) r ⌝ }
+{
+    let cursor = Cursor::new(at);
+    let opened = cursor.pass_open(text);
+    let here = opened.next;
+    if opened.opens {
+        return Head::Opens(kind, DIM_XY, opened.place, here.at);
+    }
+    let token = sorts::take(text, here);
+    // Where it is refused, what was looked at stays held.
     if token.sort < OPEN {
         return Head::Wrong(
             Refusal {
@@ -72,25 +90,17 @@ fn header(text: &[u8], kind: u32, cursor: Cursor) -> Head
             here,
         );
     }
-    // What is held is taken by letting it go.
-    if token.sort == OPEN {
-        return Head::Opens(kind, DIM_XY, token.place, here.at);
-    }
     if token.sort != WORD {
-        return opener(text, kind, DIM_XY, here);
+        return empty(text, kind, DIM_XY, token);
     }
     let start = token.start;
     let end = start + token.len;
     let word = &text[start..end];
     match names::ending_of(word) {
-        Ending::Is(dimension) => {
-            let ending = sorts::take(text, here);
-            let next = ending.next;
-            opener(text, kind, dimension, next)
-        }
+        Ending::Is(dimension) => opener(text, kind, dimension, token.at),
         Ending::No => {
             if names::is_empty_word(word) {
-                opener(text, kind, DIM_XY, here)
+                Head::Empty(kind, DIM_XY, token.place, token.at)
             } else {
                 Head::Wrong(
                     Refusal {
@@ -105,8 +115,8 @@ fn header(text: &[u8], kind: u32, cursor: Cursor) -> Head
 }
 
 // What follows the word at `place` that means `name`.
-fn by_name(text: &[u8], place: usize, name: Name, cursor: Cursor) -> Head
-    ensures { λ r. ⌜ MetHead (now (text .entry)) (byName place name) (stream (now (text .entry)) cursor) r ⌝ }
+fn by_name(text: &[u8], place: usize, name: Name, at: usize) -> Head
+    ensures { λ r. ⌜ MetHead (now (text .entry)) (byName place name) (cursorAt at) r ⌝ }
 {
     match name {
         Name::Unknown => Head::Wrong(
@@ -114,28 +124,27 @@ fn by_name(text: &[u8], place: usize, name: Name, cursor: Cursor) -> Head
                 number: UNKNOWN_NAME,
                 place,
             },
-            cursor,
+            Cursor::new(at),
         ),
-        Name::Bare(kind) => header(text, kind, cursor),
-        Name::Joined(kind, dimension) => opener(text, kind, dimension, cursor),
+        Name::Bare(kind) => header(text, kind, at),
+        Name::Joined(kind, dimension) => opener(text, kind, dimension, at),
     }
 }
 
 // The name of a collection's child, and what follows it.
-pub fn child_head(text: &[u8], cursor: Cursor) -> Head
-    ensures { λ r. ⌜ MetHead (now (text .entry)) childHead (stream (now (text .entry)) cursor) r ⌝ }
+pub fn child_head(text: &[u8], at: usize) -> Head
+    ensures { λ r. ⌜ MetHead (now (text .entry)) childHead (cursorAt at) r ⌝ }
 {
-    let token = sorts::take(text, cursor);
-    let next = token.next;
+    let token = sorts::take_at(text, at);
     if token.sort == WORD {
         let start = token.start;
         let end = start + token.len;
         let name = names::name_of(&text[start..end]);
-        return by_name(text, token.place, name, next);
+        return by_name(text, token.place, name, token.at);
     }
     Head::Wrong(
         sorts::refusal_at(text, NO_CHILD, token.sort, token.place),
-        next,
+        Cursor::new(token.at),
     )
 }
 
@@ -154,29 +163,28 @@ fn is_ascii(w: &[u8]) -> bool
 }
 
 // The name of the root, and what follows it.
-pub fn root_head(text: &[u8], cursor: Cursor) -> Head
-    ensures { λ r. ⌜ MetHead (now (text .entry)) rootHead (stream (now (text .entry)) cursor) r ⌝ }
+pub fn root_head(text: &[u8], at: usize) -> Head
+    ensures { λ r. ⌜ MetHead (now (text .entry)) rootHead (cursorAt at) r ⌝ }
 {
-    let token = sorts::take(text, cursor);
-    let next = token.next;
+    let token = sorts::take_at(text, at);
     if token.sort != WORD {
         return Head::Wrong(
             sorts::refusal_at(text, NO_ROOT, token.sort, token.place),
-            next,
+            Cursor::new(token.at),
         );
     }
     let start = token.start;
     let end = start + token.len;
     let word = &text[start..end];
     if is_ascii(word) {
-        by_name(text, token.place, names::name_of(word), next)
+        by_name(text, token.place, names::name_of(word), token.at)
     } else {
         Head::Wrong(
             Refusal {
                 number: NON_ASCII_ROOT,
                 place: token.place,
             },
-            next,
+            Cursor::new(token.at),
         )
     }
 }

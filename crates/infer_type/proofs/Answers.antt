@@ -25,9 +25,9 @@ use Rattle.names.specs.declared.Front.the-variants.{Begun, Other}
 use Rattle.lists.proofs.Lists.{every-head, every-tail}
 use Rattle.infer_type.specs.declared.Inferred.{Inferred}
 use Rattle.refusals.specs.Refusals.{emptyWithoutSpace, neitherParenNorEmpty}
-use Rattle.infer_type.specs.Part.{isTrimmed, isNoParen, isLooked, startAt, endAt, wideAt, looked}
-use Rattle.infer_type.specs.Search.{hasWord, before, after}
-use Rattle.infer_type.specs.Infer.{accepted, refused, named, afterName, blank, dimensionIn, withParen, withoutParen, inferLooked, inferType}
+use Rattle.infer_type.specs.Part.{isTrimmed, isNoParen, isLooked, trimmedAt, endAt, wideAt, looked}
+use Rattle.infer_type.specs.Search.{hasWord, beforeWord, afterWord}
+use Rattle.infer_type.specs.Infer.{accepted, refused, inferredAs, behindName, blank, dimensionIn, withParen, withoutParen, inferLooked, inferType}
 use Rattle.infer_type.specs.Answers.{Start, Wide, Looked, Paren, NoParen, Spaced, InRange, Answer, long, ill, wide, neither, noSpace, noName, namedParen, namedEmpty}
 use Rattle.infer_type.proofs.Part.{first-stop, end-fits, start-fits}
 
@@ -74,67 +74,67 @@ dimension-small l = go (hasWord zm l) (hasWord z l) (hasWord m l)
 
 module _ (text : List ℕ) where
   -- a scan from where it ended stays there
-  stays : begins isTrimmed (rest text (startAt text)) ≡ false
-  unfolding startAt
+  stays : begins isTrimmed (rest text (trimmedAt text)) ≡ false
+  unfolding trimmedAt
   stays =
       let there = firstNot isTrimmed text 0 in
       sym (moves isTrimmed text there) ∙ le-ltb there _ (omega (arith, scan-on isTrimmed isTrimmed (λ b h. h) text 0))
 
-  starts : Start text (startAt text)
-  unfolding startAt
+  starts : Start text (trimmedAt text)
+  unfolding trimmedAt
   starts = record { within = not-past isTrimmed text 0; trimmed = many-part isTrimmed text 0 (omega arith); kept = stays }
 
-  before-wide : wideAt text < endAt text → Many isLooked (part text (startAt text) (wideAt text))
+  before-wide : wideAt text < endAt text → Many isLooked (part text (trimmedAt text) (wideAt text))
   before-wide h =
-      let e : firstNot isLooked text (startAt text) ≡ wideAt text = omega (arith, first-stop text) in
-      rw e at (many-part isLooked text (startAt text) (start-fits text))
+      let e : firstNot isLooked text (trimmedAt text) ≡ wideAt text = omega (arith, first-stop text) in
+      rw e at (many-part isLooked text (trimmedAt text) (start-fits text))
 
   wide-byte : wideAt text < length text → isAscii (getD text (wideAt text) 0) ≡ false
   unfolding wideAt
-  wide-byte h = first-fails isAscii text (startAt text) h
+  wide-byte h = first-fails isAscii text (trimmedAt text) h
 
-  start-wide : startAt text ≤ wideAt text
+  start-wide : trimmedAt text ≤ wideAt text
   unfolding wideAt
-  start-wide = not-before isAscii text (startAt text) (start-fits text)
+  start-wide = not-before isAscii text (trimmedAt text) (start-fits text)
 
-  wides : wideAt text < endAt text → Wide text (startAt text) (wideAt text)
+  wides : wideAt text < endAt text → Wide text (trimmedAt text) (wideAt text)
   wides h =
       let inside : wideAt text < length text = omega (arith, end-fits text) in
       record { from = start-wide; within = inside; byte = wide-byte inside; looked = before-wide h }
 
   -- the part looked at, where 24 isn't answered
   module _ (short : overLimit (length text) ≡ false) (utf8 : isUtf8 text ≡ true) where
-    looks : ltb (wideAt text) (endAt text) ≡ false → Looked text (startAt text) (endAt text)
+    looks : ltb (wideAt text) (endAt text) ≡ false → Looked text (trimmedAt text) (endAt text)
     unfolding endAt
     looks t =
-        let e : firstNot isLooked text (startAt text) ≡ endAt text = omega (arith, first-stop text, ltb-false (wideAt text) (endAt text) t) in
-        record { short = short; utf8 = utf8; starts = starts; from = not-before isNoParen text (startAt text) (start-fits text); plain = rw e at (many-part isLooked text (startAt text) (start-fits text)) }
+        let e : firstNot isLooked text (trimmedAt text) ≡ endAt text = omega (arith, first-stop text, ltb-false (wideAt text) (endAt text) t) in
+        record { short = short; utf8 = utf8; starts = starts; from = not-before isNoParen text (trimmedAt text) (start-fits text); plain = rw e at (many-part isLooked text (trimmedAt text) (start-fits text)) }
 
     paren : endAt text < length text → Paren text (endAt text)
     unfolding endAt
-    paren h = (h, eqb-true _ _ (not-false _ (first-fails isNoParen text (startAt text) h)))
+    paren h = (h, eqb-true _ _ (not-false _ (first-fails isNoParen text (trimmedAt text) h)))
 
     in-range : (kind n : ℕ) → front (looked text) ≡ Begun kind n → (l : List ℕ) → InRange kind (dimensionIn l)
     in-range kind n e l = let k : HasKind (Begun kind n) = rw e at (front-kind (looked text)) in (k .0, k .1, dimension-small l)
 
-    with-answer : Looked text (startAt text) (endAt text) → Paren text (endAt text) → Answer text (withParen (startAt text) (looked text))
+    with-answer : Looked text (trimmedAt text) (endAt text) → Paren text (endAt text) → Answer text (withParen (trimmedAt text) (looked text))
     unfolding withParen
     with-answer k p = go (front (looked text)) refl
       where
-        go : (name : Front) → front (looked text) ≡ name → Answer text (named (startAt text) name (dimensionIn (afterName name (looked text))))
+        go : (name : Front) → front (looked text) ≡ name → Answer text (inferredAs (trimmedAt text) name (dimensionIn (behindName name (looked text))))
         go (Begun kind n) e = namedParen k p e (in-range kind n e _)
         go Other e = noName k (inl p) e
 
-    without-answer : Looked text (startAt text) (endAt text) → NoParen text (endAt text) → Answer text (withoutParen (startAt text) (looked text))
+    without-answer : Looked text (trimmedAt text) (endAt text) → NoParen text (endAt text) → Answer text (withoutParen (trimmedAt text) (looked text))
     unfolding withoutParen
-    without-answer k p = go (hasWord empty (looked text)) (hasWord blank (before empty (looked text))) refl refl
+    without-answer k p = go (hasWord empty (looked text)) (hasWord blank (beforeWord empty (looked text))) refl refl
       where
-        by-name : Spaced (looked text) → (name : Front) → front (looked text) ≡ name → Answer text (named (startAt text) name (dimensionIn (after blank (before empty (looked text)))))
+        by-name : Spaced (looked text) → (name : Front) → front (looked text) ≡ name → Answer text (inferredAs (trimmedAt text) name (dimensionIn (afterWord blank (beforeWord empty (looked text)))))
         by-name s (Begun kind n) e = namedEmpty k p s e (in-range kind n e _)
         by-name s Other e = noName k (inr (p, s)) e
 
-        go : (hasEmpty hasSpace : Bool) → hasWord empty (looked text) ≡ hasEmpty → hasWord blank (before empty (looked text)) ≡ hasSpace
-            → Answer text (cond (not hasEmpty) (refused neitherParenNorEmpty (startAt text)) (cond (not hasSpace) (refused emptyWithoutSpace (startAt text)) (named (startAt text) (front (looked text)) (dimensionIn (after blank (before empty (looked text)))))))
+        go : (hasEmpty hasSpace : Bool) → hasWord empty (looked text) ≡ hasEmpty → hasWord blank (beforeWord empty (looked text)) ≡ hasSpace
+            → Answer text (cond (not hasEmpty) (refused neitherParenNorEmpty (trimmedAt text)) (cond (not hasSpace) (refused emptyWithoutSpace (trimmedAt text)) (inferredAs (trimmedAt text) (front (looked text)) (dimensionIn (afterWord blank (beforeWord empty (looked text)))))))
         go false hasSpace e f = neither k p e
         go true false e f = noSpace k p e f
         go true true e f = by-name (e, f) (front (looked text)) refl

@@ -18,9 +18,9 @@ use Rattle.names.specs.Strings.{empty}
 use Rattle.names.specs.Names.{front}
 use Rattle.names.specs.declared.Front.{Front}
 use Rattle.refusals.specs.Refusals.{textTooLong, illFormedUtf8, unsupportedName, emptyWithoutSpace, neitherParenNorEmpty, nonAscii}
-use Rattle.infer_type.specs.Part.{isLooked, startAt, endAt}
-use Rattle.infer_type.specs.Search.{firstWord, before}
-use Rattle.infer_type.specs.Infer.{accepted, refused, named, blank, dimensionIn, withParen, withoutParen, inferLooked, inferType}
+use Rattle.infer_type.specs.Part.{isLooked, trimmedAt, endAt}
+use Rattle.infer_type.specs.Search.{firstWord, beforeWord}
+use Rattle.infer_type.specs.Infer.{accepted, refused, inferredAs, blank, dimensionIn, withParen, withoutParen, inferLooked, inferType}
 use Rattle.infer_type.proofs.Search.{first-fits, has-none, has-some}
 use Rattle.infer_type.proofs.Part.{stopAt, stop-none, stop-paren, stop-wide, start-fits}
 
@@ -46,32 +46,32 @@ module _ (l : List ℕ) (e : ℕ) (isEmpty : e ≡ firstWord empty l) where
   width : e - 0 ≡ firstWord empty l
   width = omega arith
 
-  before-length : length (before empty l) ≡ e
+  before-length : length (beforeWord empty l) ≡ e
   before-length = length-take (firstWord empty l) l ∙ omega (arith, first-fits empty l)
 
   module _ (some : e ≡ length l → ⊥) (s : ℕ) (isSpace : s ≡ firstWord blank (part l 0 e)) where
-    space-at : s ≡ firstWord blank (before empty l)
+    space-at : s ≡ firstWord blank (beforeWord empty l)
     space-at = isSpace ∙ ap (λ (k : ℕ). firstWord blank (take k l)) width
 
     pub space-fits : (s ≡ e → ⊥) → s < e
-    space-fits n = omega (arith, first-fits blank (before empty l), before-length, space-at)
+    space-fits n = omega (arith, first-fits blank (beforeWord empty l), before-length, space-at)
 
     pub no-space : (place : ℕ) → s ≡ e → refused emptyWithoutSpace place ≡ withoutParen place l
     unfolding withoutParen
-    no-space place n = rw (has-some empty l (λ h. some (isEmpty ∙ h)), has-none blank (before empty l) (sym space-at ∙ n ∙ sym before-length))
+    no-space place n = rw (has-some empty l (λ h. some (isEmpty ∙ h)), has-none blank (beforeWord empty l) (sym space-at ∙ n ∙ sym before-length))
 
-    spaced : (place : ℕ) {dim : ℕ} → (s ≡ e → ⊥) → dim ≡ dimensionIn (take (length (part l 0 e) - (s + 1)) (drop (s + 1) (part l 0 e))) → named place (front l) dim ≡ withoutParen place l
+    spaced : (place : ℕ) {dim : ℕ} → (s ≡ e → ⊥) → dim ≡ dimensionIn (take (length (part l 0 e) - (s + 1)) (drop (s + 1) (part l 0 e))) → inferredAs place (front l) dim ≡ withoutParen place l
     unfolding withoutParen
-    spaced place n d = rw (has-some empty l (λ h. some (isEmpty ∙ h)), has-some blank (before empty l) (λ h. n (space-at ∙ h ∙ before-length)), d, tail-part, width, ← space-at)
+    spaced place n d = rw (has-some empty l (λ h. some (isEmpty ∙ h)), has-some blank (beforeWord empty l) (λ h. n (space-at ∙ h ∙ before-length)), d, tail-part, width, ← space-at)
 
     pub spaced-named : (place : ℕ) {kind n dim : ℕ} → (s ≡ e → ⊥) → dim ≡ dimensionIn (take (length (part l 0 e) - (s + 1)) (drop (s + 1) (part l 0 e))) → front l ≡ Front.Begun kind n → accepted kind dim ≡ withoutParen place l
-    spaced-named place {dim = dim} n d f = ap (λ (x : Front). named place x dim) (sym f) ∙ spaced place n d
+    spaced-named place {dim = dim} n d f = ap (λ (x : Front). inferredAs place x dim) (sym f) ∙ spaced place n d
 
     pub spaced-other : (place : ℕ) {dim : ℕ} → (s ≡ e → ⊥) → dim ≡ dimensionIn (take (length (part l 0 e) - (s + 1)) (drop (s + 1) (part l 0 e))) → front l ≡ Front.Other → refused unsupportedName place ≡ withoutParen place l
-    spaced-other place {dim = dim} n d f = ap (λ (x : Front). named place x dim) (sym f) ∙ spaced place n d
+    spaced-other place {dim = dim} n d f = ap (λ (x : Front). inferredAs place x dim) (sym f) ∙ spaced place n d
 
 -- s is where the text starts, e where the scan from there stops
-module _ (text : List ℕ) (s e : ℕ) (isStart : s ≡ startAt text) (isStop : e ≡ firstNot isLooked text s) where
+module _ (text : List ℕ) (s e : ℕ) (isStart : s ≡ trimmedAt text) (isStop : e ≡ firstNot isLooked text s) where
   stop-at : e ≡ stopAt text
   stop-at = isStop ∙ ap (firstNot isLooked text) isStart
 

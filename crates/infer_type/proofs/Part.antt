@@ -13,7 +13,7 @@ use Rattle.scan.specs.Bytes.{parenOpen}
 use Rattle.scan.specs.Runs.{run, firstNot}
 use Rattle.scan.proofs.Runs.{not-past, first-fails}
 use Rattle.scan.specs.Bytes.{isAscii}
-use Rattle.infer_type.specs.Part.{isNoParen, isLooked, startAt, endAt, wideAt}
+use Rattle.infer_type.specs.Part.{isNoParen, isLooked, trimmedAt, endAt, wideAt}
 
 -- a scan for bytes that pass two tests ends where the first of the two scans does
 module _ (p q : ℕ → Bool) where
@@ -33,23 +33,23 @@ module _ (p q : ℕ → Bool) where
 
 -- where the one scan stops
 abbrev pub stopAt : List ℕ → ℕ
-stopAt text = firstNot isLooked text (startAt text)
+stopAt text = firstNot isLooked text (trimmedAt text)
 
 module _ (text : List ℕ) where
   pub first-stop : stopAt text ≡ min (wideAt text) (endAt text)
   unfolding wideAt endAt
-  first-stop = first-both isAscii isNoParen text (startAt text)
+  first-stop = first-both isAscii isNoParen text (trimmedAt text)
 
   pub wide-fits : wideAt text ≤ length text
   unfolding wideAt
-  wide-fits = not-past isAscii text (startAt text)
+  wide-fits = not-past isAscii text (trimmedAt text)
 
   pub end-fits : endAt text ≤ length text
   unfolding endAt
-  end-fits = not-past isNoParen text (startAt text)
+  end-fits = not-past isNoParen text (trimmedAt text)
 
-  pub start-fits : startAt text ≤ length text
-  unfolding startAt
+  pub start-fits : trimmedAt text ≤ length text
+  unfolding trimmedAt
   start-fits = not-past _ text 0
 
   -- no byte stops the scan: the part looked at is ASCII, and goes to the end
@@ -65,7 +65,7 @@ module _ (text : List ℕ) where
       go (yes l) = (omega (arith, first-stop), omega (arith, first-stop))
       go (no l) =
           let e : wideAt text ≡ stopAt text = omega (arith, first-stop) in
-          absurd (false≢true (sym (first-fails isAscii text (startAt text) (omega arith)) ∙ ap isAscii (ap (λ (k : ℕ). getD text k 0) e ∙ b)))
+          absurd (false≢true (sym (first-fails isAscii text (trimmedAt text) (omega arith)) ∙ ap isAscii (ap (λ (k : ℕ). getD text k 0) e ∙ b)))
 
   -- another byte does: it is the first non-ASCII one, and stands in the part looked at
   pub stop-wide : stopAt text < length text → (getD text (stopAt text) 0 ≡ parenOpen → ⊥) → (wideAt text ≡ stopAt text) × (wideAt text < endAt text)
@@ -76,4 +76,4 @@ module _ (text : List ℕ) where
       go (yes l) = (omega (arith, first-stop), omega (arith, first-stop))
       go (no l) =
           let e : endAt text ≡ stopAt text = omega (arith, first-stop) in
-          absurd (false≢true (sym (first-fails isNoParen text (startAt text) (omega arith)) ∙ ap not (ap (λ (k : ℕ). eqb (getD text k 0) parenOpen) e ∙ ne-eqb _ _ n)))
+          absurd (false≢true (sym (first-fails isNoParen text (trimmedAt text) (omega arith)) ∙ ap not (ap (λ (k : ℕ). eqb (getD text k 0) parenOpen) e ∙ ne-eqb _ _ n)))

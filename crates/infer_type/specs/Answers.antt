@@ -18,7 +18,7 @@ use Rattle.kinds.specs.Kinds.{kindPoint, kindGeometryCollection, dimXYZM}
 use Rattle.infer_type.specs.declared.Inferred.{Inferred}
 use Rattle.refusals.specs.Refusals.{textTooLong, illFormedUtf8, unsupportedName, emptyWithoutSpace, neitherParenNorEmpty, nonAscii}
 use Rattle.infer_type.specs.Part.{isTrimmed, isLooked}
-use Rattle.infer_type.specs.Search.{hasWord, before, after}
+use Rattle.infer_type.specs.Search.{hasWord, beforeWord, afterWord}
 use Rattle.infer_type.specs.Infer.{accepted, refused, blank, dimensionIn}
 
 -- "first byte after trimming, or the text's length": what stands before the place is trimmed, and a byte that stands there isn't
@@ -51,7 +51,7 @@ NoParen text stop = stop ≡ length text
 
 -- "it must contain EMPTY (21); before the first EMPTY there must be a space (20)"
 abbrev pub Spaced : List ℕ → Type 0
-Spaced l = (hasWord empty l ≡ true) × (hasWord blank (before empty l) ≡ true)
+Spaced l = (hasWord empty l ≡ true) × (hasWord blank (beforeWord empty l) ≡ true)
 
 -- a kind and a dimension that there are
 abbrev pub InRange : ℕ → ℕ → Type 0
@@ -62,11 +62,11 @@ pub data Answer (text : List ℕ) : Inferred → Type 0 where
   ill : overLimit (length text) ≡ false → isUtf8 text ≡ false → Answer text (refused illFormedUtf8 (firstIll text))
   wide : {start place : ℕ} → overLimit (length text) ≡ false → isUtf8 text ≡ true → Start text start → Wide text start place → Answer text (refused nonAscii place)
   neither : {start stop : ℕ} → Looked text start stop → NoParen text stop → hasWord empty (part text start stop) ≡ false → Answer text (refused neitherParenNorEmpty start)
-  noSpace : {start stop : ℕ} → Looked text start stop → NoParen text stop → hasWord empty (part text start stop) ≡ true → hasWord blank (before empty (part text start stop)) ≡ false → Answer text (refused emptyWithoutSpace start)
+  noSpace : {start stop : ℕ} → Looked text start stop → NoParen text stop → hasWord empty (part text start stop) ≡ true → hasWord blank (beforeWord empty (part text start stop)) ≡ false → Answer text (refused emptyWithoutSpace start)
   noName : {start stop : ℕ} → Looked text start stop → Paren text stop ⊎ (NoParen text stop × Spaced (part text start stop)) → front (part text start stop) ≡ Other → Answer text (refused unsupportedName start)
   -- "With `(`: it must begin with a name (19); in the rest, `ZM` before `Z` before `M`."
   namedParen : {start stop kind n : ℕ} → Looked text start stop → Paren text stop → front (part text start stop) ≡ Begun kind n → InRange kind (dimensionIn (drop n (part text start stop)))
       → Answer text (accepted kind (dimensionIn (drop n (part text start stop))))
   -- "search between the first space and that EMPTY; then the name"
-  namedEmpty : {start stop kind n : ℕ} → Looked text start stop → NoParen text stop → Spaced (part text start stop) → front (part text start stop) ≡ Begun kind n → InRange kind (dimensionIn (after blank (before empty (part text start stop))))
-      → Answer text (accepted kind (dimensionIn (after blank (before empty (part text start stop)))))
+  namedEmpty : {start stop kind n : ℕ} → Looked text start stop → NoParen text stop → Spaced (part text start stop) → front (part text start stop) ≡ Begun kind n → InRange kind (dimensionIn (afterWord blank (beforeWord empty (part text start stop))))
+      → Answer text (accepted kind (dimensionIn (afterWord blank (beforeWord empty (part text start stop)))))

@@ -14,8 +14,8 @@ use Rattle.names.specs.declared.Front.{Front}
 use Rattle.names.specs.declared.Front.the-variants.{Begun, Other}
 use Rattle.infer_type.specs.declared.Inferred.{Inferred}
 use Rattle.refusals.specs.Refusals.{textTooLong, illFormedUtf8, unsupportedName, emptyWithoutSpace, neitherParenNorEmpty, nonAscii}
-use Rattle.infer_type.specs.Part.{startAt, endAt, wideAt, looked}
-use Rattle.infer_type.specs.Search.{hasWord, before, after}
+use Rattle.infer_type.specs.Part.{trimmedAt, endAt, wideAt, looked}
+use Rattle.infer_type.specs.Search.{hasWord, beforeWord, afterWord}
 
 -- "Number and place are 0 when accepted, all after the place 0 when refused."
 abbrev pub accepted : ℕ → ℕ → Inferred
@@ -29,18 +29,18 @@ unfoldable pub dimensionIn : List ℕ → ℕ
 dimensionIn l = cond (hasWord zm l) dimXYZM (cond (hasWord z l) dimXYZ (cond (hasWord m l) dimXYM dimXY))
 
 -- the name's kind with the dimension, or "unsupported name"
-abbrev pub named : ℕ → Front → ℕ → Inferred
-named place (Begun kind n) dimension = accepted kind dimension
-named place Other dimension = refused unsupportedName place
+abbrev pub inferredAs : ℕ → Front → ℕ → Inferred
+inferredAs place (Begun kind n) dimension = accepted kind dimension
+inferredAs place Other dimension = refused unsupportedName place
 
 -- what stands after the name
-abbrev pub afterName : Front → List ℕ → List ℕ
-afterName (Begun kind n) l = drop n l
-afterName Other l = l
+abbrev pub behindName : Front → List ℕ → List ℕ
+behindName (Begun kind n) l = drop n l
+behindName Other l = l
 
 -- "With `(`: it must begin with a name (19); in the rest, `ZM` before `Z` before `M`."
 unfoldable pub withParen : ℕ → List ℕ → Inferred
-withParen place l = named place (front l) (dimensionIn (afterName (front l) l))
+withParen place l = inferredAs place (front l) (dimensionIn (behindName (front l) l))
 
 -- the space before EMPTY, as a word
 abbrev pub blank : List ℕ
@@ -50,15 +50,15 @@ blank = space ∷ []
 unfoldable pub withoutParen : ℕ → List ℕ → Inferred
 withoutParen place l =
     cond (not (hasWord empty l)) (refused neitherParenNorEmpty place)
-    (cond (not (hasWord blank (before empty l))) (refused emptyWithoutSpace place)
-    (named place (front l) (dimensionIn (after blank (before empty l)))))
+    (cond (not (hasWord blank (beforeWord empty l))) (refused emptyWithoutSpace place)
+    (inferredAs place (front l) (dimensionIn (afterWord blank (beforeWord empty l)))))
 
 -- "non-ASCII byte in the part looked at", "the first such byte"; else by whether a `(` ends that part
 unfoldable pub inferLooked : List ℕ → Inferred
 inferLooked text =
     cond (ltb (wideAt text) (endAt text)) (refused nonAscii (wideAt text))
-    (cond (ltb (endAt text) (length text)) (withParen (startAt text) (looked text))
-    (withoutParen (startAt text) (looked text)))
+    (cond (ltb (endAt text) (length text)) (withParen (trimmedAt text) (looked text))
+    (withoutParen (trimmedAt text) (looked text)))
 
 -- "It and infer_type test nothing else of the lent text but, for infer_type, 1 and 2 first, then 24."
 unfoldable pub inferType : List ℕ → Inferred

@@ -16,19 +16,19 @@ abbrev pub isNoParen : ℕ → Bool
 isNoParen b = not (eqb b parenOpen)
 
 -- "Trim bytes 9 to 13 and 32 in front (more than the tokenizer's blanks).": "first byte after trimming, or the text's length"
-unfoldable pub startAt : List ℕ → ℕ
-startAt text = firstNot isTrimmed text 0
+unfoldable pub trimmedAt : List ℕ → ℕ
+trimmedAt text = firstNot isTrimmed text 0
 
 -- "The part looked at ends before the first `(`, else at the end"
 unfoldable pub endAt : List ℕ → ℕ
-endAt text = firstNot isNoParen text (startAt text)
+endAt text = firstNot isNoParen text (trimmedAt text)
 
 abbrev pub looked : List ℕ → List ℕ
-looked text = part text (startAt text) (endAt text)
+looked text = part text (trimmedAt text) (endAt text)
 
 -- the first non-ASCII byte after trimming, or the text's length
 unfoldable pub wideAt : List ℕ → ℕ
-wideAt text = firstNot isAscii text (startAt text)
+wideAt text = firstNot isAscii text (trimmedAt text)
 
 -- neither a `(` nor non-ASCII: what one scan for both passes over
 abbrev pub isLooked : ℕ → Bool

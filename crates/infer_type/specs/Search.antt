@@ -16,8 +16,8 @@ firstWord w [] = 0
 firstWord w (b ∷ l) = cond (startsWord (b ∷ l) w) 0 (suc (firstWord w l))
 
 -- what stands before and after the place where it first stands
-abbrev pub before : List ℕ → List ℕ → List ℕ
-before w l = take (firstWord w l) l
+abbrev pub beforeWord : List ℕ → List ℕ → List ℕ
+beforeWord w l = take (firstWord w l) l
 
-abbrev pub after : List ℕ → List ℕ → List ℕ
-after w l = drop (firstWord w l + length w) l
+abbrev pub afterWord : List ℕ → List ℕ → List ℕ
+afterWord w l = drop (firstWord w l + length w) l

@@ -1,7 +1,7 @@
 // The kind and the dimension that the front of a text names, without reading the geometry.
 ghost use mathlib.Core.Path.{_≡_};
 ghost use Rattle.scan.specs.Runs.{firstNot};
-ghost use Rattle.infer_type.specs.Part.{isTrimmed, isLooked, startAt};
+ghost use Rattle.infer_type.specs.Part.{isTrimmed, isLooked, trimmedAt};
 ghost use Rattle.infer_type.specs.Search.{firstWord};
 ghost use Rattle.infer_type.specs.Infer.{accepted, refused, dimensionIn, withParen, withoutParen, inferLooked, inferType};
 use names::Front;
@@ -62,7 +62,7 @@ fn is_looked(b: u8) -> bool
 
 // The place of the first byte that is not trimmed, or the end.
 fn trim_start(text: &[u8]) -> usize
-    ensures { λ r. ⌜ r ≡ startAt (now (text .entry)) ⌝ }
+    ensures { λ r. ⌜ r ≡ trimmedAt (now (text .entry)) ⌝ }
 {
     let mut i = 0;
     while i < text.len() {

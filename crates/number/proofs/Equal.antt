@@ -15,7 +15,7 @@ use Rattle.scan.proofs.Bytes.{or-elim, digit-low}
 use Rattle.words.specs.Words.{sameWord, upper}
 use Rattle.number.specs.Lexeme.{isE, inf, infinity, nan, isNamed, afterWhole, hasDigit, isDigits, isExponent, isDecimal, isUnsigned, isLexeme}
 use Rattle.number.proofs.Stop.{all-none, one-none}
-use Rattle.number.specs.Grammar.{One, one, _then_, both, _or_, this, that, Maybe, absent, present, Named, named, Sign, Point, Digits, Digits1, Exp, Number, Unsigned, Float}
+use Rattle.number.specs.Grammar.{OneByte, one, _then_, both, _or_, this, that, Maybe, absent, present, Named, named, Sign, Point, Digits, Digits1, Exp, Number, Unsigned, Float}
 
 -- bytes of different kinds
 or-right : (a b : Bool) → b ≡ true → (a || b) ≡ true
@@ -46,11 +46,11 @@ module _ (p : ℕ → Bool) where
   after-many y none = refl
   after-many y (more e m) = rw e (after-many y m)
 
-  begins-one : {x : List ℕ} (y : List ℕ) → (One p then Many p) x → begins p (x ++ y) ≡ true
+  begins-one : {x : List ℕ} (y : List ℕ) → (OneByte p then Many p) x → begins p (x ++ y) ≡ true
   unfolding begins
   begins-one y (both (one e) m) = e
 
-  many-one : {x : List ℕ} → (One p then Many p) x → Many p x
+  many-one : {x : List ℕ} → (OneByte p then Many p) x → Many p x
   many-one (both (one e) m) = more e m
 
   many-all : {x : List ℕ} → Many p x → afterAll p x ≡ []
@@ -58,7 +58,7 @@ module _ (p : ℕ → Bool) where
   many-all none = refl
   many-all (more e m) = rw e (many-all m)
 
-  begins-first : {x : List ℕ} → (One p then Many p) x → begins p x ≡ true
+  begins-first : {x : List ℕ} → (OneByte p then Many p) x → begins p x ≡ true
   unfolding begins
   begins-first (both (one e) m) = e
 
@@ -207,11 +207,11 @@ exp-sound (b ∷ l) e =
     present (both (one f) (sign-digits l (rw f at (and-eq-true-iff (isE b) _ .0 e .1))))
 
 -- a run is empty, or has a first byte
-some-run : (p : ℕ → Bool) {x : List ℕ} → Many p x → (x ≡ []) ⊎ (One p then Many p) x
+some-run : (p : ℕ → Bool) {x : List ℕ} → Many p x → (x ≡ []) ⊎ (OneByte p then Many p) x
 some-run p none = inl refl
 some-run p (more e m) = inr (both (one e) m)
 
-runs-one : (p : ℕ → Bool) (l : List ℕ) → begins p l ≡ true → (x : List ℕ) × (One p then Many p) x × (l ≡ x ++ afterAll p l)
+runs-one : (p : ℕ → Bool) (l : List ℕ) → begins p l ≡ true → (x : List ℕ) × (OneByte p then Many p) x × (l ≡ x ++ afterAll p l)
 unfolding begins afterAll
 runs-one p [] e = absurd (false≢true e)
 runs-one p (b ∷ l) e =

@@ -14,7 +14,7 @@ use Rattle.scan.proofs.Bytes.{above-inner, digit-inner, sign-inner, point-inner
 use Rattle.scan.proofs.Runs.{whole}
 use Rattle.words.specs.Words.{sameWord, upper, isLower}
 use Rattle.number.specs.Lexeme.{isE, inf, infinity, nan, isLexeme}
-use Rattle.number.specs.Grammar.{One, one, _then_, both, _or_, this, that, Maybe, absent, present, Named, named, Digits1, Exp, Number, Float}
+use Rattle.number.specs.Grammar.{OneByte, one, _then_, both, _or_, this, that, Maybe, absent, present, Named, named, Digits1, Exp, Number, Float}
 use Rattle.number.proofs.Stop.{e-inner}
 use Rattle.number.proofs.Equal.{sound}
 
@@ -24,10 +24,10 @@ many-join (more e m) n = more e (many-join m n)
 
 -- for any test that only inner bytes pass
 module _ (p : ℕ → Bool) (inner : (b : ℕ) → p b ≡ true → isInner b ≡ true) where
-  one-inner : {l : List ℕ} → One p l → Many isInner l
+  one-inner : {l : List ℕ} → OneByte p l → Many isInner l
   one-inner (one {b = b} e) = more (inner b e) none
 
-  maybe-inner : {l : List ℕ} → Maybe (One p) l → Many isInner l
+  maybe-inner : {l : List ℕ} → Maybe (OneByte p) l → Many isInner l
   maybe-inner absent = none
   maybe-inner (present o) = one-inner o
 

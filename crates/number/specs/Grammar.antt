@@ -20,8 +20,8 @@ abbrev pub Texts : Type 1
 Texts = List ℕ → Type 0
 
 -- one byte that passes the test
-pub data One (p : ℕ → Bool) : List ℕ → Type 0 where
-  one : {b : ℕ} → p b ≡ true → One p (b ∷ [])
+pub data OneByte (p : ℕ → Bool) : List ℕ → Type 0 where
+  one : {b : ℕ} → p b ≡ true → OneByte p (b ∷ [])
 
 -- a text of the one, and after it a text of the other
 pub data _then_ (A B : List ℕ → Type 0) : List ℕ → Type 0 where
@@ -42,10 +42,10 @@ pub data Named (w : List ℕ) : List ℕ → Type 0 where
   named : {l : List ℕ} → sameWord l w ≡ true → Named w l
 
 abbrev pub Sign : Texts
-Sign = One isSign
+Sign = OneByte isSign
 
 abbrev pub Point : Texts
-Point = One isPoint
+Point = OneByte isPoint
 
 -- Digit*
 abbrev pub Digits : Texts
@@ -53,10 +53,10 @@ Digits = Many isDigit
 
 -- Digit+
 abbrev pub Digits1 : Texts
-Digits1 = One isDigit then Many isDigit
+Digits1 = OneByte isDigit then Many isDigit
 
 abbrev pub Exp : Texts
-Exp = One isE then Maybe Sign then Digits1
+Exp = OneByte isE then Maybe Sign then Digits1
 
 abbrev pub Number : Texts
 Number = (Digits1 or (Digits1 then Point then Digits) or (Digits then Point then Digits1)) then Maybe Exp

@@ -11,7 +11,7 @@ use borrow.Author.Tests.{le-leb, lt-leb, leb-true, leb-false}
 use lib.ListN.{length, take, drop, getD, set, length-append, drop-of-length-le}
 use lib.Seq.{sets, sets-eq, length-sets, drop-cons, take-at, length-take-le}
 use Rattle.pen.specs.declared.Pen.{Pen}
-use Rattle.pen.specs.Pen.{pen, hasRoom, penAfter, outAfter, Puts, Left, Owes, Emits}
+use Rattle.pen.specs.Pen.{pen, hasRoom, penAfter, outAfter, Puts, ToPut, Owes, Emits}
 
 -- ---- a piece is put, or has no room
 module _ (piece : List ℕ) (p : Pen) (out : List ℕ) where
@@ -86,7 +86,7 @@ module _ {X Y : List ℕ → List ℕ} {p r : Pen} {out out' : List ℕ} where
 -- ---- what a piece that is put owes
 module _ {piece : List ℕ} {p : Pen} {out : List ℕ} {r : Pen} {out' : List ℕ} (h : Puts piece p out r out') where
   -- there is room: the piece stands
-  stood : p .full ≡ false → leb (p .at + length piece) (length out) ≡ true → (goal rest : List ℕ) → Left goal (piece ++ rest) p out → Left goal rest (pen (p .at + length piece) false) (sets out (p .at) piece)
+  stood : p .full ≡ false → leb (p .at + length piece) (length out) ≡ true → (goal rest : List ℕ) → ToPut goal (piece ++ rest) p out → ToPut goal rest (pen (p .at + length piece) false) (sets out (p .at) piece)
   stood e t goal rest l =
       let fits = leb-true (p .at + length piece) (length out) t in
       let g : take (p .at) out ++ (piece ++ rest) ≡ goal = rw e at (l .held) in
@@ -95,7 +95,7 @@ module _ {piece : List ℕ} {p : Pen} {out : List ℕ} {r : Pen} {out' : List �
       record { within = rw (length-sets out (p .at) piece) fits; held = rw (cut, append-assoc) g }
 
   -- there is none: the text has none
-  lacked : p .full ≡ false → leb (p .at + length piece) (length out) ≡ false → (goal rest : List ℕ) → Left goal (piece ++ rest) p out → Left goal rest (pen (p .at) true) out
+  lacked : p .full ≡ false → leb (p .at + length piece) (length out) ≡ false → (goal rest : List ℕ) → ToPut goal (piece ++ rest) p out → ToPut goal rest (pen (p .at) true) out
   lacked e t goal rest l =
       let g : take (p .at) out ++ (piece ++ rest) ≡ goal = rw e at (l .held) in
       let n = length-append (take (p .at) out) (piece ++ rest) in

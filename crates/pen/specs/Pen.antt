@@ -28,19 +28,19 @@ pub record Puts (piece : List ℕ) (p : Pen) (out : List ℕ) (r : Pen) (out' : 
 
 -- ---- a pen owes the rest of a text
 -- what stands and what is still to be put are the text; or the text has no room
-abbrev pub Held : Bool → List ℕ → List ℕ → ℕ → List ℕ → Type 0
-Held false goal rest at out = take at out ++ rest ≡ goal
-Held true goal rest at out = length out < length goal
+abbrev pub HasPut : Bool → List ℕ → List ℕ → ℕ → List ℕ → Type 0
+HasPut false goal rest at out = take at out ++ rest ≡ goal
+HasPut true goal rest at out = length out < length goal
 
 -- of the text `goal`, `rest` is still to be put
-pub record Left (goal rest : List ℕ) (p : Pen) (out : List ℕ) : Type 0 where
+pub record ToPut (goal rest : List ℕ) (p : Pen) (out : List ℕ) : Type 0 where
   pub within : p .at ≤ length out
-  pub held : Held (p .full) goal rest (p .at) out
+  pub held : HasPut (p .full) goal rest (p .at) out
 
 -- of any text, what X puts in front of a rest was owed, and what Y does is owed now
 pub record Owes (X Y : List ℕ → List ℕ) (p : Pen) (out : List ℕ) (r : Pen) (out' : List ℕ) : Type 0 where
   pub same : length out' ≡ length out
-  pub to : (goal rest : List ℕ) → Left goal (X rest) p out → Left goal (Y rest) r out'
+  pub to : (goal rest : List ℕ) → ToPut goal (X rest) p out → ToPut goal (Y rest) r out'
 
 -- what X puts in front of a rest is put
 abbrev pub Emits : (List ℕ → List ℕ) → Pen → List ℕ → Pen → List ℕ → Type 0

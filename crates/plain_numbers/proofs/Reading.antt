@@ -1,13 +1,14 @@
 -- A plain number: the token that the definition reads there.
 -- Assumes nothing.
 use mathlib.Core.Path.{_≡_, refl, sym, ap, _∙_}
-use mathlib.Core.Bool.{Bool, true, false, false≢true}
+use mathlib.Core.Bool.{Bool, true, false, _&&_}
 use mathlib.Core.List.{List}
 use Prim.Native.Nat.{ℕ, _+_, _-_, _≤_, _<_}
 use native.Mathlib.Omega.{arith}
-use lib.Dec.{eqb, ltb}
-use lib.ListN.{length, getD, List·getD-eq-default}
-use borrow.Author.Tests.{eqb-true, ne-eqb, lt-ltb}
+use lib.Dec.{ltb}
+use lib.ListN.{length, getD}
+use borrow.Author.Tests.{eqb-true, ne-eqb, ltb-true, lt-ltb, le-ltb}
+use Rattle.lists.proofs.Cases.{either, and-both}
 use Rattle.scan.specs.Bytes.{isBlank, isStop, isDigit, isSign, isPlus, isPoint, isNumberlike, minus}
 use Rattle.scan.specs.Runs.{firstNot, afterOneAt}
 use Rattle.scan.proofs.Bytes.{digit-low}
@@ -19,7 +20,7 @@ use Rattle.tokenizer.specs.declared.Found.{Found}
 use Rattle.tokenizer.specs.declared.Token.the-variants.{Number}
 use Rattle.tokenizer.specs.Tokens.{read, afterBlank, numberAt, tokenAt, readAt}
 use Rattle.tokenizer.proofs.Tokens.{number-is, other-is}
-use Rattle.plain_numbers.specs.Plain.{isMinus, FractionEnd, Digits, PlainDigits, PlainNumber}
+use Rattle.plain_numbers.specs.Plain.{isMinus, fractionEnd, decimalEnd, plain, plainAt, PlainNumber}
 use Rattle.plain_numbers.specs.declared.Plain.{Plain}
 
 -- from the minus on no byte is a blank
@@ -74,39 +75,86 @@ module _ (text : List ℕ) (i first whole point end : ℕ) (w : whole ≡ firstN
           let d : isDigit (getD text i 0) ≡ true = rw (← k) first-digit in
           reads-number (omega (arith, first-in, k)) (k ∙ one-off isSign text i (digit-sign (getD text i 0) d)) (omega (arith, digit-low (getD text i 0) d)) (rw d)
 
-module _ (text : List ℕ) (i : ℕ) where
-  pub no-fraction : isPoint (getD text i 0) ≡ false → FractionEnd text i i
-  no-fraction n = record { point = λ y. absurd (false≢true (sym n ∙ y)); none = λ z. refl }
+-- where r lies behind i: the first digit, the end of the digits from there, what follows a point, and its digits' end
+record Digits (text : List ℕ) (i r : ℕ) : Type 0 where
+  first : ℕ
+  signed : first ≡ afterOneAt isMinus text i
+  some : first < firstNot isDigit text first
+  whole : r ≡ firstNot isDigit text (afterOneAt isPoint text (firstNot isDigit text first))
 
-  pub past-fraction : length text ≤ i → FractionEnd text i i
-  past-fraction h = let e : getD text i 0 ≡ 0 = List·getD-eq-default text 0 h in no-fraction (rw e)
+module _ (text : List ℕ) where
+  -- a scan for digits goes no further where it ended
+  fraction-is : (first : ℕ) → fractionEnd text (firstNot isDigit text first) ≡ firstNot isDigit text (afterOneAt isPoint text (firstNot isDigit text first))
+  unfolding fractionEnd
+  fraction-is first =
+      let whole = firstNot isDigit text first in
+      either (isPoint (getD text whole 0)) (λ r. r ≡ firstNot isDigit text (afterOneAt isPoint text whole)) _ _
+      (λ y. ap (firstNot isDigit text) (one-on isPoint text whole y))
+      (λ n. sym (scan-on isDigit isDigit (λ b t. t) text first) ∙ ap (firstNot isDigit text) (one-off isPoint text whole n))
 
--- the end of the digits
-module _ {text : List ℕ} (first : ℕ) {whole r : ℕ} (w : whole ≡ firstNot isDigit text first) (f : FractionEnd text whole r) where
-  fraction-is : r ≡ firstNot isDigit text (afterOneAt isPoint text whole)
-  fraction-is = go (isPoint (getD text whole 0)) refl
-    where
-      go : (t : Bool) → isPoint (getD text whole 0) ≡ t → r ≡ firstNot isDigit text (afterOneAt isPoint text whole)
-      go true y = f .point y ∙ ap (firstNot isDigit text) (one-on isPoint text whole y)
-      go false n = f .none n ∙ w ∙ sym (scan-on isDigit isDigit (λ b t. t) text first) ∙ ap (firstNot isDigit text) (sym w ∙ one-off isPoint text whole n)
+  module _ (i : ℕ) where
+    decimal-digits : i < decimalEnd text i → Digits text i (decimalEnd text i)
+    unfolding decimalEnd
+    decimal-digits =
+        let first = afterOneAt isMinus text i in
+        either (ltb first (firstNot isDigit text first)) (λ r. i < r → Digits text i r) _ _
+        (λ y h. record { first = first; signed = refl; some = ltb-true first (firstNot isDigit text first) y; whole = fraction-is first })
+        (λ n h. absurd (omega arith))
 
-  pub decimal-end : {i : ℕ} → first ≡ afterOneAt isMinus text i → first < whole → PlainDigits text i r
-  decimal-end e l h = record { first = first; signed = e; some = rw (← w) l; whole = rw (← w) fraction-is }
+    no-number : PlainNumber text i (plain i i)
+    no-number = record { on = omega arith; inside = λ h. absurd (omega arith); number = λ h. absurd (omega arith) }
 
-pub no-digits : {text : List ℕ} {i : ℕ} → PlainDigits text i i
-no-digits h = absurd (omega arith)
+    a-number : (end : ℕ) → Digits text i end → end < length text → isStop (getD text end 0) ≡ true → PlainNumber text i (plain end (afterBlank text end))
+    a-number end d g s = record {
+      on = one-not-before isBlank text end refl;
+      inside = λ h. g;
+      number = λ h.
+          reads-plain text i (d .first) (firstNot isDigit text (d .first)) (afterOneAt isPoint text (firstNot isDigit text (d .first))) end refl (d .some) refl (d .whole) g s (d .signed);
+    }
 
-abbrev plain : ℕ → ℕ → Plain
-plain e n = record { end = e; next = n }
+    -- what is found is the token that stands there
+    pub plain-number : PlainNumber text i (plainAt text i)
+    unfolding plainAt
+    plain-number =
+        let end = decimalEnd text i in
+        let inside = ltb end (length text) && isStop (getD text end 0) in
+        either (ltb i end && inside) (PlainNumber text i) _ _
+        (λ y.
+        let outer = and-both (ltb i end) inside y in
+        let inner = and-both (ltb end (length text)) (isStop (getD text end 0)) (outer .1) in
+        a-number end (decimal-digits (ltb-true i end (outer .0))) (ltb-true end (length text) (inner .0)) (inner .1))
+        (λ n. no-number)
 
-pub no-number : {text : List ℕ} {i : ℕ} → PlainNumber text i (plain i i)
-no-number = record { on = omega arith; inside = λ h. absurd (omega arith); number = λ h. absurd (omega arith) }
+    -- the code's ways to the digits' end
+    module _ (first whole : ℕ) (s : first ≡ afterOneAt isMinus text i) (w : whole ≡ firstNot isDigit text first) where
+      pub no-digits : whole ≤ first → i ≡ decimalEnd text i
+      unfolding decimalEnd
+      no-digits h = rw (← s, ← w, le-ltb first whole h)
 
-pub a-number : {text : List ℕ} {i end next : ℕ} → PlainDigits text i end → end < length text → isStop (getD text end 0) ≡ true → next ≡ afterBlank text end → PlainNumber text i (plain end next)
-a-number {text} {i} {end} x g s n = record {
-  on = rw n (one-not-before isBlank text end refl);
-  inside = λ h. g;
-  number = λ h.
-      let d = x h in
-      rw n (reads-plain text i (d .first) (firstNot isDigit text (d .first)) (afterOneAt isPoint text (firstNot isDigit text (d .first))) end refl (d .some) refl (d .whole) g s (d .signed));
-}
+      pub some-digits : {r : ℕ} → first < whole → r ≡ fractionEnd text whole → r ≡ decimalEnd text i
+      unfolding decimalEnd
+      some-digits h e = rw (← s, ← w, lt-ltb first whole h) e
+
+    -- and to the number
+    module _ (end : ℕ) (e : end ≡ decimalEnd text i) where
+      pub none-there : end ≤ i → plain i i ≡ plainAt text i
+      unfolding plainAt
+      none-there h = rw (← e, le-ltb i end h)
+
+      module _ (h : i < end) where
+        pub none-behind : length text ≤ end → plain i i ≡ plainAt text i
+        unfolding plainAt
+        none-behind g = rw (← e, lt-ltb i end h, le-ltb end (length text) g)
+
+        module _ (g : end < length text) where
+          pub none-stops : isStop (getD text end 0) ≡ false → plain i i ≡ plainAt text i
+          unfolding plainAt
+          none-stops n = rw (← e, lt-ltb i end h, lt-ltb end (length text) g, n)
+
+          pub one-stops : {next : ℕ} → isStop (getD text end 0) ≡ true → next ≡ afterBlank text end → plain end next ≡ plainAt text i
+          unfolding plainAt
+          one-stops y a = rw (← e, lt-ltb i end h, lt-ltb end (length text) g, y, a)
+
+-- the same of what is equal to it
+pub plain-met : {text : List ℕ} {i : ℕ} {r : Plain} → r ≡ plainAt text i → PlainNumber text i r
+plain-met {text} {i} e = rw e (plain-number text i)

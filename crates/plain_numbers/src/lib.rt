@@ -5,7 +5,7 @@ use scan::digits_end;
 use scan::is_stop;
 ghost use mathlib.Core.Path.{_≡_};
 ghost use Rattle.scan.specs.Runs.{afterOneAt};
-ghost use Rattle.plain_numbers.specs.Plain.{isMinus, FractionEnd, PlainDigits, PlainNumber};
+ghost use Rattle.plain_numbers.specs.Plain.{isMinus, fractionEnd, decimalEnd, plainAt};
 
 // Where a plain number ends, and the place to read on from: both are where it was looked for if there is none.
 pub struct Plain {
@@ -25,7 +25,7 @@ fn after_minus(text: &[u8], at: usize) -> usize
 
 // Where the point at `at` and the digits behind it end, or `at` where no point stands.
 fn fraction_end(text: &[u8], at: usize) -> usize
-    ensures { λ r. ⌜ FractionEnd (now (text .entry)) at r ⌝ }
+    ensures { λ r. ⌜ r ≡ fractionEnd (now (text .entry)) at ⌝ }
 {
     if text.len() <= at {
         return at;
@@ -40,7 +40,7 @@ fn fraction_end(text: &[u8], at: usize) -> usize
 // Where the digits that stand at `at` end, with a minus in front and a point among them; or `at`. A plus is no part of
 // them: it is dropped, and the text of such a number starts behind it.
 fn decimal_end(text: &[u8], at: usize) -> usize
-    ensures { λ r. ⌜ PlainDigits (now (text .entry)) at r ⌝ }
+    ensures { λ r. ⌜ r ≡ decimalEnd (now (text .entry)) at ⌝ }
 {
     let first = after_minus(text, at);
     let whole = digits_end(text, first);
@@ -52,7 +52,7 @@ fn decimal_end(text: &[u8], at: usize) -> usize
 
 // The plain number at `at`.
 pub fn plain_number(text: &[u8], at: usize) -> Plain
-    ensures { λ r. ⌜ PlainNumber (now (text .entry)) at r ⌝ }
+    ensures { λ r. ⌜ r ≡ plainAt (now (text .entry)) at ⌝ }
 {
     let none = Plain { end: at, next: at };
     let end = decimal_end(text, at);

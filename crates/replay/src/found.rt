@@ -1,94 +1,62 @@
-// What a demand for a token found: compared, and printed as the place where it starts, `word@0`, with the span
-// of a number's text or of a word, `word@0:0+5`.
-use printing::least;
-use printing::put;
-use printing::put_number;
+// What demands for a token found, compared.
 use tokenizer::Found;
 use tokenizer::Token;
 
-// The names of what can be found, one after the other, and where each begins. Only a number and a word, the last ones,
-// have a span.
-const NAMES: [u8; 27] = *b"none@bad@,@)@(@number@word@";
-
-const NONE: usize = 0;
-
-const BAD: usize = 5;
-
-const COMMA: usize = 9;
-
-const CLOSE: usize = 11;
-
-const OPEN: usize = 13;
-
-const NUMBER: usize = 15;
-
-const WORD: usize = 22;
-
-const END: usize = 27;
-
-// The name, from one place of `NAMES` to another, and the numbers behind it: 0 where there is no span.
-pub(crate) struct Shown {
-    from: usize,
-    to: usize,
+// What was found as numbers: its sort, its place, and the span of a number's text or of a word, 0 where there is none.
+struct Told {
+    sort: usize,
     place: usize,
     start: usize,
     len: usize,
 }
 
-fn spanned(from: usize, to: usize, place: usize, start: usize, len: usize) -> Shown {
-    Shown {
-        from,
-        to,
+const NONE: usize = 0;
+
+const BAD: usize = 1;
+
+const COMMA: usize = 2;
+
+const CLOSE: usize = 3;
+
+const OPEN: usize = 4;
+
+const NUMBER: usize = 5;
+
+const WORD: usize = 6;
+
+fn spanned(sort: usize, place: usize, start: usize, len: usize) -> Told {
+    Told {
+        sort,
         place,
         start,
         len,
     }
 }
 
-fn placed(from: usize, to: usize, place: usize) -> Shown {
-    spanned(from, to, place, 0, 0)
+fn placed(sort: usize, place: usize) -> Told {
+    spanned(sort, place, 0, 0)
 }
 
-fn show_token(place: usize, token: Token) -> Shown {
+fn numbers_of_token(place: usize, token: Token) -> Told {
     match token {
-        Token::Comma => placed(COMMA, CLOSE, place),
-        Token::Number(start, len) => spanned(NUMBER, WORD, place, start, len),
-        Token::ParenClose => placed(CLOSE, OPEN, place),
-        Token::ParenOpen => placed(OPEN, NUMBER, place),
-        Token::Word(start, len) => spanned(WORD, END, place, start, len),
+        Token::Comma => placed(COMMA, place),
+        Token::Number(start, len) => spanned(NUMBER, place, start, len),
+        Token::ParenClose => placed(CLOSE, place),
+        Token::ParenOpen => placed(OPEN, place),
+        Token::Word(start, len) => spanned(WORD, place, start, len),
     }
 }
 
-pub(crate) fn show(found: Found) -> Shown {
+fn numbers_of(found: Found) -> Told {
     match found {
-        Found::NoToken(place) => placed(NONE, BAD, place),
-        Found::BadNumber(place) => placed(BAD, COMMA, place),
-        Found::Is(place, token) => show_token(place, token),
+        Found::NoToken(place) => placed(NONE, place),
+        Found::BadNumber(place) => placed(BAD, place),
+        Found::Is(place, token) => numbers_of_token(place, token),
     }
 }
 
-pub(crate) fn same(a: Shown, b: Shown) -> bool {
-    (a.from == b.from) & (a.place == b.place) & (a.start == b.start) & (a.len == b.len)
-}
-
-fn put_span(out: &mut [u8], at: usize, start: usize, len: usize) -> usize {
-    let a = put(out, at, b":");
-    let b = put_number(out, a, start);
-    let c = put(out, b, b"+");
-    put_number(out, c, len)
-}
-
-fn put_name(out: &mut [u8], at: usize, from: usize, to: usize) -> usize {
-    let last = least(to, END);
-    let first = least(from, last);
-    put(out, at, &NAMES[first..last])
-}
-
-pub(crate) fn put_shown(out: &mut [u8], at: usize, shown: Shown) -> usize {
-    let named = put_name(out, at, shown.from, shown.to);
-    let end = put_number(out, named, shown.place);
-    if shown.from < NUMBER {
-        return end;
-    }
-    put_span(out, end, shown.start, shown.len)
+pub(crate) fn same(first: Found, second: Found) -> bool {
+    let a = numbers_of(first);
+    let b = numbers_of(second);
+    (a.sort == b.sort) & (a.place == b.place) & (a.start == b.start) & (a.len == b.len)
 }

@@ -1,8 +1,5 @@
 // The letters `t` and `p`: a cursor is put at a place of a text, and so many tokens are taken. Fields: place, count.
-use crate::found::Shown;
-use crate::found::put_shown;
 use crate::found::same;
-use crate::found::show;
 use crate::lines::put_end;
 use crate::lines::put_space;
 use crate::numbers::field;
@@ -11,7 +8,9 @@ use crate::records::SECOND_FIELD;
 use crate::records::TEXT_AFTER_TWO;
 use printing::least;
 use printing::put;
+use shown_tokens::put_found;
 use tokenizer::Cursor;
+use tokenizer::Found;
 
 // Where the fields stand in a record.
 const PLACE: usize = FIRST_FIELD;
@@ -27,7 +26,7 @@ pub(crate) enum Asking {
 
 // What was taken, whether each look before saw the same, and the cursor to go on with.
 struct Asked {
-    found: Shown,
+    found: Found,
     agreed: bool,
     next: Cursor,
 }
@@ -36,7 +35,6 @@ fn take(cursor: Cursor, text: &[u8]) -> Asked {
     let taken = cursor.take(text);
     let found = taken.found;
     let next = taken.next;
-    let found = show(found);
     Asked {
         found,
         agreed: true,
@@ -54,8 +52,7 @@ fn look_and_take(cursor: Cursor, text: &[u8]) -> Asked {
     let taken = cursor.take(text);
     let found = taken.found;
     let next = taken.next;
-    let found = show(found);
-    let agreed = same(show(first), found) & same(show(second), found);
+    let agreed = same(first, found) & same(second, found);
     Asked {
         found,
         agreed,
@@ -74,7 +71,7 @@ fn ask_one(cursor: Cursor, text: &[u8], asking: Asking) -> Asked {
 // contracts a look sees what is taken next.
 fn put_asked(out: &mut [u8], at: usize, asked: Asked) -> usize {
     let found = asked.found;
-    let end = put_shown(out, at, found);
+    let end = put_found(out, at, found);
     if asked.agreed {
         end
     } else {

@@ -6,7 +6,7 @@ use mathlib.Core.Bool.{false≢true}
 use mathlib.Core.List.{List}
 use Rattle.printing.specs.Printing.{Buffer, putAllIn}
 use Rattle.wkt.specs.declared.ReadAnswer.{ReadAnswer}
-use Rattle.wkt.specs.Whole.{leaves-one}
+use Rattle.wkt.specs.Leaves.{leaves-one}
 use Rattle.row_lines.specs.Lines.{listingLines, Listed, long, read}
 
 -- the same answer and the same rows are put in the same way

@@ -7,23 +7,26 @@ use mathlib.Core.List.{List, [], _∷_, _++_, flatMap}
 use lib.Dec.{eqb}
 use lib.ListN.{length, take, drop}
 use Rattle.scan.specs.Text.{bytes}
-use Rattle.store.specs.Rows.{nodeRoom, numberRoom, rowNumbers, rowAt, startAt, lengthAt}
+use Rattle.store.specs.Rows.{nodeRoom, numberRoom, rowNumbers, rowAt, spanStartAt, spanLengthAt}
 use Rattle.grammar.specs.Reading.{reading}
 use Rattle.wkt.specs.declared.ReadAnswer.{ReadAnswer}
-use Rattle.wkt.specs.Whole.{Leaves}
+use Rattle.wkt.specs.Leaves.{Leaves}
 use Rattle.printing.specs.Printing.{Buffer, putAllIn, spaced}
 use Rattle.console.specs.Console.{isOverInput, newline, countsLine, refusalLine, tooLongLine}
 
--- a node's row: kind, dimension and parts
+-- a node's row: its numbers in their order, which are kind, dimension and parts
+abbrev pub nodeNumbers : List ℕ → ℕ → List (List ℕ)
+nodeNumbers ns i = flatMap spaced (rowNumbers (rowAt ns i))
+
 abbrev pub nodeLine : List ℕ → ℕ → List (List ℕ)
-nodeLine ns i = bytes "node" ∷ (flatMap spaced (rowNumbers (rowAt ns i)) ++ newline ∷ [])
+nodeLine ns i = bytes "node" ∷ (nodeNumbers ns i ++ newline ∷ [])
 
 -- the kept text of a number: what lies in the text of the bytes that its row names
 abbrev pub keptText : List ℕ → ℕ → ℕ → List ℕ
 keptText text start len = take (min len (length text - min start (length text))) (drop (min start (length text)) text)
 
 abbrev pub numberLine : List ℕ → List ℕ → ℕ → List (List ℕ)
-numberLine text ms i = bytes "number " ∷ keptText text (startAt ms i) (lengthAt ms i) ∷ newline ∷ []
+numberLine text ms i = bytes "number " ∷ keptText text (spanStartAt ms i) (spanLengthAt ms i) ∷ newline ∷ []
 
 -- the lines of the first n rows, one after the other
 unfoldable pub linesOf : (ℕ → List (List ℕ)) → ℕ → List (List ℕ)

@@ -15,20 +15,32 @@ use console::put_too_long;
 use printing::least;
 use printing::put;
 use printing::put_spaced;
+use store::NODE_WIDTH;
 use wkt::ReadAnswer;
 ghost use mathlib.Core.Path.{_≡_};
 ghost use Rattle.printing.specs.Printing.{buffer, putAllIn};
-ghost use Rattle.row_lines.specs.Lines.{nodeLine, numberLine, linesOf, answerLine, listingLines, Listed};
+ghost use Rattle.row_lines.specs.Lines.{nodeNumbers, nodeLine, numberLine, linesOf, answerLine, listingLines, Listed};
 
-// Kind, dimension and parts of a node.
+// The numbers of a node's row, column by column, each after a space.
+fn put_columns(out: &mut [u8], at: usize, nodes: &[u32], row: usize) -> usize
+    ensures { λ r. ⌜ buffer (now (out .exit)) r ≡ putAllIn (nodeNumbers (now (nodes .entry)) row) (buffer (now (out .entry)) at) ⌝ }
+{
+    let mut end = at;
+    let mut column = 0;
+    while column < NODE_WIDTH {
+        end = put_spaced(out, end, store::node_column(nodes, row, column) as usize);
+        column += 1;
+    }
+    end
+}
+
+// All that the row of a node says.
 fn put_node(out: &mut [u8], at: usize, nodes: &[u32], row: usize) -> usize
     ensures { λ r. ⌜ buffer (now (out .exit)) r ≡ putAllIn (nodeLine (now (nodes .entry)) row) (buffer (now (out .entry)) at) ⌝ }
 {
     let named = put(out, at, b"node");
-    let kind = put_spaced(out, named, store::kind_at(nodes, row) as usize);
-    let dimension = put_spaced(out, kind, store::dimension_at(nodes, row) as usize);
-    let parts = put_spaced(out, dimension, store::parts_at(nodes, row) as usize);
-    put(out, parts, b"\n")
+    let told = put_columns(out, named, nodes, row);
+    put(out, told, b"\n")
 }
 
 // The kept text of a number.

@@ -1,4 +1,4 @@
-pub mod Frames
+pub mod Sizes
 pub mod Numbers
 pub mod Nested
 pub mod Stack

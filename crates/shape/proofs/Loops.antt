@@ -11,7 +11,7 @@ use Rattle.shape.specs.declared.Walked.{Walked}
 use Rattle.shape.specs.declared.Met.{Met}
 use Rattle.shape.specs.declared.Met.the-variants.{Node, End, Done, Ill}
 use Rattle.shape.specs.Nodes.{follow}
-use Rattle.shape.specs.Walk.{cells, After, beginning, step, ahead, wholeWalk}
+use Rattle.shape.specs.Walk.{cells, After, beginning, walkStep, ahead, wholeWalk}
 use Rattle.shape.proofs.Trees.{follow-none, follow-both}
 use Rattle.shape.proofs.Stepped.{Reached, reached-begin, ahead-begin, Forward, SteppedTo, Stepped, stepped}
 
@@ -39,7 +39,7 @@ Thing (End i n) = Unit {0}
 Thing Done = ⊥
 Thing Ill = ⊥
 
-module _ {nodes : List ℕ} {count : ℕ} {s : List ℕ} {w : Walk} {P : List Met → Type 0} {r : Walked} {s′ : List ℕ} (t : Walking nodes count s w P) (e : (r, s′) ≡ step nodes count s w) where
+module _ {nodes : List ℕ} {count : ℕ} {s : List ℕ} {w : Walk} {P : List Met → Type 0} {r : Walked} {s′ : List ℕ} (t : Walking nodes count s w P) (e : (r, s′) ≡ walkStep nodes count s w) where
   told : {m : Met} → r .met ≡ m → SteppedTo nodes count s w m (r .next) s′
   told {m} is =
       let a : Stepped nodes count s w (r, s′) = subst (λ (a : After). Stepped nodes count s w a) (sym e) (stepped nodes count s w (t .reached)) in

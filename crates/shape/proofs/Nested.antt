@@ -12,7 +12,7 @@ use Rattle.limits.specs.Limits.{depthLimit}
 use Rattle.kinds.specs.Kinds.{kindPoint, kindLineString, kindMultiPoint, kindMultiPolygon, kindGeometryCollection}
 use Rattle.shape.specs.declared.Frame.{Frame}
 use Rattle.shape.specs.declared.Visit.{Visit}
-use Rattle.shape.specs.Nodes.{noKind, above, isFree, childKind, isGeometry, isChild, isAllowed, isLeaf, isCollection, mayOpen, opened, onward}
+use Rattle.shape.specs.Nodes.{noKind, above, isFree, childKind, isGeometry, isChild, isAllowed, isLeaf, isCollection, mayOpen, frameOf, onward}
 use Rattle.shape.specs.Walk.{frames}
 
 -- how many open nodes may stand below one of this kind, collections aside: in a collection a multipolygon and its polygon
@@ -87,9 +87,9 @@ module _ (v : Visit) (may : mayOpen v ≡ true) (ok : v .parent .depth ≤ depth
   depth-one false = omega arith
 
   -- a node is opened: it is nested, and there is a frame for it
-  pub nested-open : {fs : List Frame} → isAllowed v ≡ true → isLeaf v ≡ false → Nested (v .parent ∷ fs) → Nested (opened v ∷ onward (v .parent) ∷ fs) × (length fs + 1 < frames)
+  pub nested-open : {fs : List Frame} → isAllowed v ≡ true → isLeaf v ≡ false → Nested (v .parent ∷ fs) → Nested (frameOf v ∷ onward (v .parent) ∷ fs) × (length fs + 1 < frames)
   nested-open a l (inner f fs o x y n) =
       let h = node-fits v a l in
       let e = depth-one (isCollection v) in
       let d = depth-fits (isCollection v) may in
-      (inner (opened v) (onward f ∷ fs) (λ z. absurd (or-left (leb (v .kind) kindLineString) _ l (rw z))) (omega (arith, x, h, e)) d (inner (onward f) fs o x y n), omega (arith, x, h, e, d))
+      (inner (frameOf v) (onward f ∷ fs) (λ z. absurd (or-left (leb (v .kind) kindLineString) _ l (rw z))) (omega (arith, x, h, e)) d (inner (onward f) fs o x y n), omega (arith, x, h, e, d))

@@ -14,11 +14,11 @@ use lib.Seq.{take-all}
 use Rattle.scan.specs.Front.{part}
 use Rattle.lists.specs.Lists.{every}
 use Rattle.number.specs.Lexeme.{isLexeme}
-use Rattle.store.specs.Rows.{startAt, lengthAt, spanAt, numberRoom, firsts, spansIn}
+use Rattle.store.specs.Rows.{spanStartAt, spanLengthAt, spanAt, numberRoom, firsts, spansIn}
 use Rattle.shape.specs.Numbers.{textAt, isNumber, isNumberAt, areNumbers}
 
 -- a span's text: all of it lies in the text, or some, or none
-module _ (text numbers : List ℕ) (i start len : ℕ) (s : start ≡ startAt numbers i) (e : len ≡ lengthAt numbers i) where
+module _ (text numbers : List ℕ) (i start len : ℕ) (s : start ≡ spanStartAt numbers i) (e : len ≡ spanLengthAt numbers i) where
   pub text-all : part text start (start + len) ≡ textAt text numbers i
   unfolding textAt
   text-all = let z : start + len - start ≡ len = omega arith in rw (z, s, e)
@@ -31,7 +31,7 @@ module _ (text numbers : List ℕ) (i start len : ℕ) (s : start ≡ startAt nu
 
   pub text-none : length text ≤ start → [] ≡ textAt text numbers i
   unfolding textAt
-  text-none h = let z : drop start text ≡ [] = drop-of-length-le text h in rw (← s, z) (sym (take-all (lengthAt numbers i) [] (omega arith)))
+  text-none h = let z : drop start text ≡ [] = drop-of-length-le text h in rw (← s, z) (sym (take-all (spanLengthAt numbers i) [] (omega arith)))
 
   pub number-off : length text < start + len → false ≡ isNumberAt text numbers i
   unfolding isNumberAt
@@ -109,4 +109,4 @@ module _ (text numbers : List ℕ) where
   -- a number of a well-formed store is a lexeme
   pub number-lexeme : (i : ℕ) → areNumbers text numbers ≡ true → i < numberRoom numbers → isLexeme (textAt text numbers i) ≡ true
   unfolding areNumbers spansIn textAt
-  number-lexeme i e h = and-eq-true-iff (leb (startAt numbers i + lengthAt numbers i) (length text)) (isLexeme (take (lengthAt numbers i) (drop (startAt numbers i) text))) .0 (every-at (isNumber text) (spanAt text numbers) (numberRoom numbers) i e h) .1
+  number-lexeme i e h = and-eq-true-iff (leb (spanStartAt numbers i + spanLengthAt numbers i) (length text)) (isLexeme (take (spanLengthAt numbers i) (drop (spanStartAt numbers i) text))) .0 (every-at (isNumber text) (spanAt text numbers) (numberRoom numbers) i e h) .1

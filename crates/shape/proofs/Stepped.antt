@@ -18,8 +18,8 @@ use Rattle.shape.specs.declared.Walk.{Walk}
 use Rattle.shape.specs.declared.Met.{Met}
 use Rattle.shape.specs.declared.Met.the-variants.{Node, End, Done, Ill}
 use Rattle.shape.specs.declared.Coming.the-variants as coming
-use Rattle.shape.specs.Nodes.{noKind, above, visitOf, numbersOf, isLeaf, isAllowed, mayOpen, opened, onward, isSpent, endOf, endings, stillOpen, follow, atLast, meetsNode, meetsRows, meets}
-use Rattle.shape.specs.Walk.{frames, cells, frameAt, putFrame, putNext, walkAt, walked, After, ill, beginning, comingIn, comingNext, passing, pushing, meeting, lastOf, stepAt, step, rowsFrom, openAt, ahead, wholeWalk, NumbersIn}
+use Rattle.shape.specs.Nodes.{noKind, above, visitOf, numbersOf, isLeaf, isAllowed, mayOpen, frameOf, onward, isSpent, nodeEnd, nodeEnds, stillOpen, follow, atLast, meetsNode, meetsRows, meets}
+use Rattle.shape.specs.Walk.{frames, cells, frameAt, putFrame, putNext, walkAt, walked, After, ill, beginning, comingIn, comingNext, passingLeaf, pushing, meeting, lastMet, stepAt, walkStep, rowsFrom, openAt, ahead, wholeWalk, NumbersIn}
 use Rattle.shape.proofs.Stack.{firsts-cut, firsts-past, openFrom, open-put, long-put, open-next, long-next}
 use Rattle.shape.proofs.Trees.{follow-both, meets-open}
 use Rattle.shape.proofs.Nested.{Nested, depth-limit, nested-above, nested-onward, nested-outer, outermost, nested-open}
@@ -87,8 +87,8 @@ Stepped nodes count s w a = SteppedTo nodes count s w (a .0 .met) (a .0 .next) (
 
 module _ (nodes : List ℕ) (count : ℕ) (s : List ℕ) (w : Walk) (reached : Reached s w) where
   -- no node is open: no row and no number is left
-  last : stillOpen (openAt s w) ≡ [] → endings (openAt s w) (w .row) ≡ [] → Stepped nodes count s w (walked (lastOf nodes count w) w, s)
-  unfolding meets meetsRows atLast lastOf
+  last : stillOpen (openAt s w) ≡ [] → nodeEnds (openAt s w) (w .row) ≡ [] → Stepped nodes count s w (walked (lastMet nodes count w) w, s)
+  unfolding meets meetsRows atLast lastMet
   last a b = go (leb (nodeRoom nodes) (w .row)) refl (eqb (w .number) count) refl
     where
       go : (x : Bool) → leb (nodeRoom nodes) (w .row) ≡ x → (y : Bool) → eqb (w .number) count ≡ y → SteppedTo nodes count s w (cond (x && y) Done Ill) w s
@@ -96,8 +96,8 @@ module _ (nodes : List ℕ) (count : ℕ) (s : List ℕ) (w : Walk) (reached : R
       go true x false y = rw (rows-past nodes (w .row) (leb-true (nodeRoom nodes) (w .row) x), a, b, y)
       go false x y z = rw (rows-in nodes (w .row) (leb-false (nodeRoom nodes) (w .row) x), a)
 
-  none-open : openAt s w ≡ [] → Stepped nodes count s w (walked (lastOf nodes count w) w, s)
-  unfolding endings stillOpen
+  none-open : openAt s w ≡ [] → Stepped nodes count s w (walked (lastMet nodes count w) w, s)
+  unfolding nodeEnds stillOpen
   none-open e = last (rw e) (rw e)
 
   module _ (in-frames : w .top < frames) where
@@ -114,15 +114,15 @@ module _ (nodes : List ℕ) (count : ℕ) (s : List ℕ) (w : Walk) (reached : R
     nested = rw cut at (reached .nested)
 
     -- what stands above the root has ended
-    above-ended : isSpent f ≡ true → f .kind ≡ noKind → Stepped nodes count s w (walked (lastOf nodes count w) w, s)
-    unfolding endings stillOpen endOf
+    above-ended : isSpent f ≡ true → f .kind ≡ noKind → Stepped nodes count s w (walked (lastMet nodes count w) w, s)
+    unfolding nodeEnds stillOpen nodeEnd
     above-ended spent k = last (rw (cut, outermost nested k, spent)) (rw (cut, outermost nested k, spent, k))
 
     -- an open node has ended
     node-ended : isSpent f ≡ true → (f .kind ≡ noKind → ⊥) → Stepped nodes count s w (walked (End (f .row) (w .row - f .row)) (walkAt (w .row) (w .number) (w .top + 1)), s)
-    unfolding meets endings stillOpen endOf
+    unfolding meets nodeEnds stillOpen nodeEnd
     node-ended spent k = record {
-      is = rw (cut, spent, ne-eqb (f .kind) noKind k) (follow-both (End (f .row) (w .row - f .row) ∷ []) (endings outers (w .row)) (meetsRows count (stillOpen outers) (w .row) (w .number) (rowsFrom nodes (w .row))));
+      is = rw (cut, spent, ne-eqb (f .kind) noKind k) (follow-both (End (f .row) (w .row - f .row) ∷ []) (nodeEnds outers (w .row)) (meetsRows count (stillOpen outers) (w .row) (w .number) (rowsFrom nodes (w .row))));
       less = omega arith;
       numbers = tt;
       reached = record { long = reached .long; nested = nested-outer nested };
@@ -159,8 +159,8 @@ module _ (nodes : List ℕ) (count : ℕ) (s : List ℕ) (w : Walk) (reached : R
         next-long = long-next s (reached .long) (w .top) in-frames (f .next + 1)
 
         -- a node without child rows
-        pass : isAllowed v ≡ true → isLeaf v ≡ true → Stepped nodes count s w (passing s count w v)
-        unfolding passing meetsNode
+        pass : isAllowed v ≡ true → isLeaf v ≡ true → Stepped nodes count s w (passingLeaf s count w v)
+        unfolding passingLeaf meetsNode
         pass ok leaf = go (leb (w .number + numbersOf v) count) refl
           where
             go : (b : Bool) → leb (w .number + numbersOf v) count ≡ b → Stepped nodes count s w (cond b (walked (Node v) (walkAt (w .row + 1) (w .number + numbersOf v) (w .top)), next) (ill s w))
@@ -177,26 +177,26 @@ module _ (nodes : List ℕ) (count : ℕ) (s : List ℕ) (w : Walk) (reached : R
         unfolding pushing meetsNode
         push ok leaf = go (mayOpen v) refl
           where
-            go : (b : Bool) → mayOpen v ≡ b → Stepped nodes count s w (cond (b && not (eqb (w .top) 0)) (walked (Node v) (walkAt (w .row + 1) (w .number) (w .top - 1)), putFrame next (w .top - 1) (opened v)) (ill s w))
+            go : (b : Bool) → mayOpen v ≡ b → Stepped nodes count s w (cond (b && not (eqb (w .top) 0)) (walked (Node v) (walkAt (w .row + 1) (w .number) (w .top - 1)), putFrame next (w .top - 1) (frameOf v)) (ill s w))
             go false x = by-row ∙ rw (ok, leaf, x)
             go true x =
                 let inside = nested-open v x (depth-limit nested) ok leaf nested in
                 let tall : length outers ≡ frames - (w .top + 1) = length-drop (w .top + 1) (firsts (frameAt s) frames) ∙ ap (λ n. n - (w .top + 1)) (firsts-length (frameAt s) frames) in
                 let some : 1 ≤ w .top = omega (arith, inside .1) in
                 let t : w .top - 1 + 1 ≡ w .top = omega arith in
-                let put : openFrom (putFrame next (w .top - 1) (opened v)) (w .top - 1) ≡ opened v ∷ onward f ∷ outers = open-put next next-long (w .top - 1) (omega arith) (opened v) ∙ rw (t, next-open) in
+                let put : openFrom (putFrame next (w .top - 1) (frameOf v)) (w .top - 1) ≡ frameOf v ∷ onward f ∷ outers = open-put next next-long (w .top - 1) (omega arith) (frameOf v) ∙ rw (t, next-open) in
                 rw (ne-eqb (w .top) 0 (λ z. omega arith)) (record {
                   is = by-row ∙ rw (ok, leaf, x) (rw put);
                   less = omega arith;
                   numbers = λ k. absurd (false≢true (sym leaf ∙ is-leaf v k));
-                  reached = record { long = long-put next next-long (w .top - 1) (omega arith) (opened v); nested = rw put (inside .0) };
+                  reached = record { long = long-put next next-long (w .top - 1) (omega arith) (frameOf v); nested = rw put (inside .0) };
                 })
 
         met : Stepped nodes count s w (meeting s count w v)
         unfolding meeting meetsNode
         met = go (isAllowed v) refl (isLeaf v) refl
           where
-            go : (a : Bool) → isAllowed v ≡ a → (b : Bool) → isLeaf v ≡ b → Stepped nodes count s w (cond a (cond b (passing s count w v) (pushing s w v)) (ill s w))
+            go : (a : Bool) → isAllowed v ≡ a → (b : Bool) → isLeaf v ≡ b → Stepped nodes count s w (cond a (cond b (passingLeaf s count w v) (pushing s w v)) (ill s w))
             go true x true y = pass x y
             go true x false y = push x y
             go false x b y = by-row ∙ rw x
@@ -218,8 +218,8 @@ module _ (nodes : List ℕ) (count : ℕ) (s : List ℕ) (w : Walk) (reached : R
         go false x b y = child x
 
   -- a step of the code is a step of the meaning
-  pub stepped : Stepped nodes count s w (step nodes count s w)
-  unfolding step comingNext
+  pub stepped : Stepped nodes count s w (walkStep nodes count s w)
+  unfolding walkStep comingNext
   stepped = go (ltb (w .top) frames) refl
     where
       go : (a : Bool) → ltb (w .top) frames ≡ a → Stepped nodes count s w (stepAt nodes count s w (cond a (comingIn (frameAt s (w .top)) w) coming.Last))

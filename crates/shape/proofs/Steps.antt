@@ -14,7 +14,7 @@ use Rattle.shape.specs.declared.Walk.{Walk}
 use Rattle.shape.specs.declared.Coming.{Coming}
 use Rattle.shape.specs.declared.Coming.the-variants.{Child, End, Last}
 use Rattle.shape.specs.Nodes.{noKind, visitOf}
-use Rattle.shape.specs.Walk.{frames, HasChild, frameAt, walkAt, After, ill, comingIn, comingNext, meeting, givenAt, given, stepAt, step}
+use Rattle.shape.specs.Walk.{frames, HasChild, frameAt, walkAt, After, ill, comingIn, comingNext, meeting, givenAt, given, stepAt, walkStep}
 
 -- a child is wanted of an open node that has one to come
 module _ (s : List ℕ) (w : Walk) (f : Frame) where
@@ -39,6 +39,6 @@ module _ (s : List ℕ) (w : Walk) (f : Frame) where
     unfolding given
     given-child count r a h i q = rw (e, lt-ltb (w .row + 1) (2 ^ 64) h, ← i) q
 
-    pub step-child : (nodes : List ℕ) (count : ℕ) (a : After) → w .row < nodeRoom nodes → v ≡ visitOf (w .row) (w .number) f (rowAt nodes (w .row)) → a ≡ meeting s count w v → a ≡ step nodes count s w
-    unfolding step
+    pub step-child : (nodes : List ℕ) (count : ℕ) (a : After) → w .row < nodeRoom nodes → v ≡ visitOf (w .row) (w .number) f (rowAt nodes (w .row)) → a ≡ meeting s count w v → a ≡ walkStep nodes count s w
+    unfolding walkStep
     step-child nodes count a h i q = rw (e, lt-ltb (w .row) (nodeRoom nodes) h, ← i) q

@@ -14,7 +14,7 @@ use Rattle.limits.specs.Limits.{depthLimit}
 use Rattle.lists.specs.Lists.{every, All}
 use Rattle.lists.proofs.Cases.{and-both}
 use Rattle.number.specs.Lexeme.{isLexeme}
-use Rattle.store.specs.Rows.{Span, span, startAt, lengthAt, spanAt, numberRoom, firsts, spansIn}
+use Rattle.store.specs.Rows.{Span, span, spanStartAt, spanLengthAt, spanAt, numberRoom, firsts, spansIn}
 use Rattle.store.proofs.Rows.{spans-length}
 use Rattle.tree.specs.Tree.{Tree, Lexeme, rows, texts, GoodTree}
 use Rattle.tree.specs.TreeIn.{SpanIn, spanText, treeIn}
@@ -72,8 +72,8 @@ all-snoc Q (x ∷ l) a h q = (h .0, all-snoc Q l a (h .1) q)
 module _ (text numbers : List ℕ) where
   number-is : (i : ℕ) → isNumber text (spanAt text numbers i) ≡ true → SpanIn text (spanAt text numbers i)
   number-is i e =
-      let u = and-both (leb (startAt numbers i + lengthAt numbers i) (length text)) (isLexeme (take (lengthAt numbers i) (drop (startAt numbers i) text))) e in
-      record { inside = leb-true (startAt numbers i + lengthAt numbers i) (length text) (u .0); bytes = refl; lexeme = u .1 }
+      let u = and-both (leb (spanStartAt numbers i + spanLengthAt numbers i) (length text)) (isLexeme (take (spanLengthAt numbers i) (drop (spanStartAt numbers i) text))) e in
+      record { inside = leb-true (spanStartAt numbers i + spanLengthAt numbers i) (length text) (u .0); bytes = refl; lexeme = u .1 }
 
   numbers-are : (n : ℕ) → every (isNumber text) (spansIn text numbers n) ≡ true → All (SpanIn text) (spansIn text numbers n)
   unfolding spansIn firsts All

@@ -21,7 +21,7 @@ use Rattle.tree.proofs.TreeIn.{FoundAs, Is, Sound, ExactlyAll, coord-sound, tim
 use Rattle.shape.specs.declared.Frame.{Frame}
 use Rattle.shape.specs.declared.Met.{Met}
 use Rattle.shape.specs.declared.Met.the-variants as met
-use Rattle.shape.specs.Nodes.{noKind, frame, above, visitOf, numbersOf, isLeaf, isFree, childKind, isAllowed, mayOpen, opened, onward, isSpent, endOf, endings, stillOpen, follow, atLast, meetsNode, meetsRows, meets}
+use Rattle.shape.specs.Nodes.{noKind, frame, above, visitOf, numbersOf, isLeaf, isFree, childKind, isAllowed, mayOpen, frameOf, onward, isSpent, nodeEnd, nodeEnds, stillOpen, follow, atLast, meetsNode, meetsRows, meets}
 use Rattle.shape.specs.Visits.{Walker, walkEach, walkLeaf, walkParts, walkNest, walkPoint, walkLine, walkPolygon, walkNode, walkNothing, walkTree}
 use Rattle.shape.specs.Store.{mapO, walkRoot}
 
@@ -98,12 +98,12 @@ coords-lack d (suc n) rs ns = go (findCoord d rs ns) (coord-sound d rs ns) (text
 module _ (count : ℕ) where
   -- the innermost open node has a child to come; it has none
   pub meets-open : (f : Frame) (fs : List Frame) (i j : ℕ) (rs : List Row) → isSpent f ≡ false → meets count (f ∷ fs) i j rs ≡ meetsRows count (f ∷ fs) i j rs
-  unfolding meets endings stillOpen
+  unfolding meets nodeEnds stillOpen
   meets-open f fs i j rs e = rw e (follow-none (meetsRows count (f ∷ fs) i j rs))
 
-  pub meets-spent : (f : Frame) (fs : List Frame) (i j : ℕ) (rs : List Row) → isSpent f ≡ true → meets count (f ∷ fs) i j rs ≡ follow (endOf f i) (meets count fs i j rs)
-  unfolding meets endings stillOpen
-  meets-spent f fs i j rs e = rw e (follow-both (endOf f i) (endings fs i) (meetsRows count (stillOpen fs) i j rs))
+  pub meets-spent : (f : Frame) (fs : List Frame) (i j : ℕ) (rs : List Row) → isSpent f ≡ true → meets count (f ∷ fs) i j rs ≡ follow (nodeEnd f i) (meets count fs i j rs)
+  unfolding meets nodeEnds stillOpen
+  meets-spent f fs i j rs e = rw e (follow-both (nodeEnd f i) (nodeEnds fs i) (meetsRows count (stillOpen fs) i j rs))
 
   -- from here on, after a part with its rows and its number texts
   abbrev after : {X : Type 0} → (X → List Row) → (X → List (List ℕ)) → List Frame → ℕ → ℕ → X → List Row → Option (List Met)
@@ -155,7 +155,7 @@ module _ (count : ℕ) where
   shown f fs k d n i j rs =
       cond (isLeaf (visitOf i j f (row k d n)))
       (cond (leb (j + numbersOf (visitOf i j f (row k d n))) count) (follow (met.Node (visitOf i j f (row k d n)) ∷ []) (meets count (onward f ∷ fs) (i + 1) (j + numbersOf (visitOf i j f (row k d n))) rs)) none)
-      (cond (mayOpen (visitOf i j f (row k d n))) (follow (met.Node (visitOf i j f (row k d n)) ∷ []) (meets count (opened (visitOf i j f (row k d n)) ∷ onward f ∷ fs) (i + 1) j rs)) none)
+      (cond (mayOpen (visitOf i j f (row k d n))) (follow (met.Node (visitOf i j f (row k d n)) ∷ []) (meets count (frameOf (visitOf i j f (row k d n)) ∷ onward f ∷ fs) (i + 1) j rs)) none)
 
   row-shown : (f : Frame) (fs : List Frame) (k d n i j : ℕ) (rs : List Row) → meetsRows count (f ∷ fs) i j (row k d n ∷ rs) ≡ cond (isAllowed (visitOf i j f (row k d n))) (shown f fs k d n i j rs) none
   unfolding meetsRows meetsNode meets shown
@@ -174,19 +174,19 @@ module _ (count : ℕ) where
       rw (e, z, le-leb j count h)
 
   -- a node with parts: it opens, and it ends after the last of them
-  open-shown : (k d depth n i j : ℕ) (f : Frame) (fs : List Frame) (rs : List Row) → leb k kindLineString ≡ false → mayOpen (visitOf i j f (row k d (suc n))) ≡ true → opened (visitOf i j f (row k d (suc n))) .depth ≡ depth →
+  open-shown : (k d depth n i j : ℕ) (f : Frame) (fs : List Frame) (rs : List Row) → leb k kindLineString ≡ false → mayOpen (visitOf i j f (row k d (suc n))) ≡ true → frameOf (visitOf i j f (row k d (suc n))) .depth ≡ depth →
       shown f fs k d (suc n) i j rs ≡ follow (met.Node (visitOf i j f (row k d (suc n))) ∷ []) (meets count (frame i k d depth (suc n) 0 ∷ onward f ∷ fs) (i + 1) j rs)
   unfolding shown
   open-shown k d depth n i j f fs rs e may dp = rw (e, ne-eqb (suc n) 0 (λ z. omega arith), may, dp)
 
   ended : (k d depth n i r j : ℕ) (fs : List Frame) (rs : List Row) → (k ≡ 0 → ⊥) → meets count (frame i k d depth n n ∷ fs) (i + 1 + r) j rs ≡ follow (met.End i (suc r) ∷ []) (meets count fs (i + suc r) j rs)
-  unfolding endOf
+  unfolding nodeEnd
   ended k d depth n i r j fs rs nz =
       let a : i + 1 + r - i ≡ suc r = omega arith in
       let b : i + 1 + r ≡ i + suc r = omega arith in
       meets-spent (frame i k d depth n n) fs (i + 1 + r) j rs (le-leb n n (omega arith)) ∙ rw (ne-eqb k 0 nz, a, b)
 
-  closes : {X : Type 0} (ro : X → List Row) (nu : X → List (List ℕ)) (w : Walker X) (k d depth i j : ℕ) (f : Frame) (fs : List Frame) (xs : List X) (rs : List Row) → (k ≡ 0 → ⊥) → 1 ≤ length xs → opened (visitOf i j f (row k d (length xs))) .depth ≡ depth →
+  closes : {X : Type 0} (ro : X → List Row) (nu : X → List (List ℕ)) (w : Walker X) (k d depth i j : ℕ) (f : Frame) (fs : List Frame) (xs : List X) (rs : List Row) → (k ≡ 0 → ⊥) → 1 ≤ length xs → frameOf (visitOf i j f (row k d (length xs))) .depth ≡ depth →
       follow (met.Node (visitOf i j f (row k d (length xs))) ∷ []) (follow (walkEach ro nu w (frame i k d depth (length xs) 0) (i + 1) j xs) (after (flatMap ro) (flatMap nu) (frame i k d depth (length xs) (length xs) ∷ fs) (i + 1) j xs rs))
       ≡ follow (walkNest ro nu w k d f i j xs) (after (rowsWith k d ro) (flatMap nu) fs i j xs rs)
   unfolding walkParts rowsWith
@@ -200,7 +200,7 @@ module _ (count : ℕ) where
       rw dp (ap (λ o. follow node (follow inner o)) (ended k d depth (length full) i (length (flatMap ro full)) (j + length (flatMap nu full)) fs rs nz) ∙ ap (follow node) (sym (follow-both inner end rest)) ∙ sym (follow-both node (inner ++ end) rest))
 
   shows-nest : {X : Type 0} (F : Finder X) (ro : X → List Row) (nu : X → List (List ℕ)) (w : Walker X) (Q : X → Type 0) → Sound ro nu Q F → (k d depth : ℕ) (f : Frame) (fs : List Frame) → leb k kindLineString ≡ false → (k ≡ 0 → ⊥)
-      → ((n i j : ℕ) → mayOpen (visitOf i j f (row k d n)) ≡ true) → ((n i j : ℕ) → opened (visitOf i j f (row k d n)) .depth ≡ depth) → ((a n m : ℕ) → Meets (frame a k d depth n m) (onward f ∷ fs) F ro nu w) → Shows k d f fs F ro nu (walkNest ro nu w k d)
+      → ((n i j : ℕ) → mayOpen (visitOf i j f (row k d n)) ≡ true) → ((n i j : ℕ) → frameOf (visitOf i j f (row k d n)) .depth ≡ depth) → ((a n m : ℕ) → Meets (frame a k d depth n m) (onward f ∷ fs) F ro nu w) → Shows k d f fs F ro nu (walkNest ro nu w k d)
   unfolding Shows times thenMeet
   shows-nest F ro nu w Q sound k d depth f fs e nz may dp S zero i j rs ns c = empty-shown k d f fs ro nu w i j rs e (omega arith)
   shows-nest {X} F ro nu w Q sound k d depth f fs e nz may dp S (suc n) i j rs ns c =
@@ -383,7 +383,7 @@ module _ (count : ℕ) where
 -- after the root
 ended-root : (count : ℕ) (rs : List Row) (ns : List (List ℕ)) (q : Front (Tree depthLimit)) → count ≡ length ns → FoundAs (Is (rows depthLimit) (texts depthLimit) (Shape depthLimit) rs ns) q →
     thenMeet q walkRoot (after count (rows depthLimit) (texts depthLimit) (onward above ∷ []) 0 0) ≡ mapO walkRoot (whole q)
-unfolding whole thenMeet meets meetsRows endings stillOpen endOf atLast
+unfolding whole thenMeet meets meetsRows nodeEnds stillOpen nodeEnd atLast
 ended-root count rs ns ill c h = refl
 ended-root count rs ns (front t [] []) c h =
     let g : length ns ≡ length (texts depthLimit t) + 0 = ap length (h .1) ∙ simp length-append in

@@ -66,8 +66,8 @@ mayOpen v = not (isCollection v) || ltb (v .parent .depth) depthLimit
 
 -- ---- the open nodes, the innermost first
 -- a node is opened, and its first child comes next
-abbrev pub opened : Visit → Frame
-opened v = frame (v .row) (v .kind) (v .dimension) (cond (isCollection v) (v .parent .depth + 1) (v .parent .depth)) (v .parts) 0
+abbrev pub frameOf : Visit → Frame
+frameOf v = frame (v .row) (v .kind) (v .dimension) (cond (isCollection v) (v .parent .depth + 1) (v .parent .depth)) (v .parts) 0
 
 -- a child has been met, and the one after it comes next
 abbrev pub onward : Frame → Frame
@@ -78,13 +78,13 @@ abbrev pub isSpent : Frame → Bool
 isSpent f = leb (f .parts) (f .next)
 
 -- the end of an open node before row i; what stands above the root has none
-unfoldable pub endOf : Frame → ℕ → List Met
-endOf f i = cond (eqb (f .kind) noKind) [] (End (f .row) (i - f .row) ∷ [])
+unfoldable pub nodeEnd : Frame → ℕ → List Met
+nodeEnd f i = cond (eqb (f .kind) noKind) [] (End (f .row) (i - f .row) ∷ [])
 
 -- the ends of the innermost nodes that have no child to come, before row i, and the nodes that are then still open
-unfoldable pub endings : List Frame → ℕ → List Met
-endings [] i = []
-endings (f ∷ fs) i = cond (isSpent f) (endOf f i ++ endings fs i) []
+unfoldable pub nodeEnds : List Frame → ℕ → List Met
+nodeEnds [] i = []
+nodeEnds (f ∷ fs) i = cond (isSpent f) (nodeEnd f i ++ nodeEnds fs i) []
 
 unfoldable pub stillOpen : List Frame → List Frame
 stillOpen [] = []
@@ -107,7 +107,7 @@ meetsNode count f fs v rest =
     cond (isAllowed v)
     (cond (isLeaf v)
     (cond (leb (v .number + numbersOf v) count) (follow (Node v ∷ []) (rest (onward f ∷ fs) (v .number + numbersOf v))) none)
-    (cond (mayOpen v) (follow (Node v ∷ []) (rest (opened v ∷ onward f ∷ fs) (v .number))) none))
+    (cond (mayOpen v) (follow (Node v ∷ []) (rest (frameOf v ∷ onward f ∷ fs) (v .number))) none))
     none
 
 -- the rows from i on, with a child of the innermost open node next, if they are exactly what the open nodes lack and need the number rows from j
@@ -115,8 +115,8 @@ meetsNode count f fs v rest =
 unfoldable pub meetsRows : ℕ → List Frame → ℕ → ℕ → List Row → Option (List Met)
 meetsRows count fs i j [] = atLast count fs j
 meetsRows count [] i j (r ∷ rs) = none
-meetsRows count (f ∷ fs) i j (r ∷ rs) = meetsNode count f fs (visitOf i j f r) λ gs j′. follow (endings gs (i + 1)) (meetsRows count (stillOpen gs) (i + 1) j′ rs)
+meetsRows count (f ∷ fs) i j (r ∷ rs) = meetsNode count f fs (visitOf i j f r) λ gs j′. follow (nodeEnds gs (i + 1)) (meetsRows count (stillOpen gs) (i + 1) j′ rs)
 
 -- what is met from here on: the ends that come before the next row, then the rows
 unfoldable pub meets : ℕ → List Frame → ℕ → ℕ → List Row → Option (List Met)
-meets count fs i j rs = follow (endings fs i) (meetsRows count (stillOpen fs) i j rs)
+meets count fs i j rs = follow (nodeEnds fs i) (meetsRows count (stillOpen fs) i j rs)

@@ -6,11 +6,11 @@ use lib.Dec.{leb}
 use lib.ListN.{length, take, drop}
 use Rattle.lists.specs.Lists.{every}
 use Rattle.number.specs.Lexeme.{isLexeme}
-use Rattle.store.specs.Rows.{Span, span, startAt, lengthAt, spanAt, numberRoom, spansIn}
+use Rattle.store.specs.Rows.{Span, span, spanStartAt, spanLengthAt, spanAt, numberRoom, spansIn}
 
 -- the text of the number row i
 unfoldable pub textAt : List ℕ → List ℕ → ℕ → List ℕ
-textAt text numbers i = take (lengthAt numbers i) (drop (startAt numbers i) text)
+textAt text numbers i = take (spanLengthAt numbers i) (drop (spanStartAt numbers i) text)
 
 -- "each lies in its text and is a lexeme"
 abbrev pub isNumber : List ℕ → Span → Bool

@@ -9,7 +9,7 @@ use Rattle.shape.specs.declared.Frame.{Frame}
 use Rattle.shape.specs.declared.Visit.{Visit}
 use Rattle.shape.specs.declared.Met.{Met}
 use Rattle.shape.specs.declared.Met.the-variants as met
-use Rattle.shape.specs.Nodes.{visitOf, opened, onward}
+use Rattle.shape.specs.Nodes.{visitOf, frameOf, onward}
 
 -- what is met of a part X that stands below a frame, its first row at i and its first number at j
 abbrev pub Walker : Type 0 → Type 0
@@ -27,7 +27,7 @@ walkLeaf k d f i j cs = met.Node (visitOf i j f (rowOver k d noRows cs)) ∷ []
 -- a node whose parts have rows; it ends after the last of them, having taken as many rows as lie between
 unfoldable pub walkParts : {X : Type 0} → (X → List Row) → (X → List (List ℕ)) → Walker X → Visit → ℕ → List X → List Met
 walkParts ro nu w v total [] = []
-walkParts ro nu w v total (x ∷ xs) = walkEach ro nu w (opened v) (v .row + 1) (v .number) (x ∷ xs) ++ met.End (v .row) total ∷ []
+walkParts ro nu w v total (x ∷ xs) = walkEach ro nu w (frameOf v) (v .row + 1) (v .number) (x ∷ xs) ++ met.End (v .row) total ∷ []
 
 abbrev pub walkNest : {X : Type 0} → (X → List Row) → (X → List (List ℕ)) → Walker X → ℕ → ℕ → Walker (List X)
 walkNest ro nu w k d f i j xs =

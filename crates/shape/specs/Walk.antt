@@ -16,7 +16,7 @@ use Rattle.shape.specs.declared.Met.{Met}
 use Rattle.shape.specs.declared.Met.the-variants.{Node, End, Done, Ill}
 use Rattle.shape.specs.declared.Coming.{Coming}
 use Rattle.shape.specs.declared.Coming.the-variants as coming
-use Rattle.shape.specs.Nodes.{noKind, frame, above, visitOf, numbersOf, isLeaf, isAllowed, mayOpen, opened, isSpent, meets}
+use Rattle.shape.specs.Nodes.{noKind, frame, above, visitOf, numbersOf, isLeaf, isAllowed, mayOpen, frameOf, isSpent, meets}
 use Rattle.shape.specs.Numbers.{areNumbers}
 use Rattle.shape.specs.Store.{areWhole, allRows}
 
@@ -85,8 +85,8 @@ unfoldable pub comingNext : List ℕ → Walk → Coming
 comingNext s w = cond (ltb (w .top) frames) (comingIn (frameAt s (w .top)) w) coming.Last
 
 -- a node without child rows
-unfoldable pub passing : List ℕ → ℕ → Walk → Visit → After
-passing s count w v =
+unfoldable pub passingLeaf : List ℕ → ℕ → Walk → Visit → After
+passingLeaf s count w v =
     cond (leb (v .number + numbersOf v) count)
     (walked (Node v) (walkAt (w .row + 1) (v .number + numbersOf v) (w .top)), putNext s (w .top) (v .parent .next + 1))
     (ill s w)
@@ -95,11 +95,11 @@ passing s count w v =
 unfoldable pub pushing : List ℕ → Walk → Visit → After
 pushing s w v =
     cond (mayOpen v && not (eqb (w .top) 0))
-    (walked (Node v) (walkAt (w .row + 1) (v .number) (w .top - 1)), putFrame (putNext s (w .top) (v .parent .next + 1)) (w .top - 1) (opened v))
+    (walked (Node v) (walkAt (w .row + 1) (v .number) (w .top - 1)), putFrame (putNext s (w .top) (v .parent .next + 1)) (w .top - 1) (frameOf v))
     (ill s w)
 
 unfoldable pub meeting : List ℕ → ℕ → Walk → Visit → After
-meeting s count w v = cond (isAllowed v) (cond (isLeaf v) (passing s count w v) (pushing s w v)) (ill s w)
+meeting s count w v = cond (isAllowed v) (cond (isLeaf v) (passingLeaf s count w v) (pushing s w v)) (ill s w)
 
 -- a row that is given, if one is wanted and can be counted
 abbrev pub givenAt : List ℕ → ℕ → Walk → Row → Coming → After
@@ -111,17 +111,17 @@ unfoldable pub given : List ℕ → ℕ → Walk → Row → After
 given s count w r = givenAt s count w r (comingNext s w)
 
 -- the root has ended: no row and no number is left
-unfoldable pub lastOf : List ℕ → ℕ → Walk → Met
-lastOf nodes count w = cond (leb (nodeRoom nodes) (w .row) && eqb (w .number) count) Done Ill
+unfoldable pub lastMet : List ℕ → ℕ → Walk → Met
+lastMet nodes count w = cond (leb (nodeRoom nodes) (w .row) && eqb (w .number) count) Done Ill
 
 -- a step over rows that are there
 abbrev pub stepAt : List ℕ → ℕ → List ℕ → Walk → Coming → After
 stepAt nodes count s w (coming.Child f) = cond (ltb (w .row) (nodeRoom nodes)) (meeting s count w (visitOf (w .row) (w .number) f (rowAt nodes (w .row)))) (ill s w)
 stepAt nodes count s w (coming.End i n w′) = (walked (End i n) w′, s)
-stepAt nodes count s w coming.Last = (walked (lastOf nodes count w) w, s)
+stepAt nodes count s w coming.Last = (walked (lastMet nodes count w) w, s)
 
-unfoldable pub step : List ℕ → ℕ → List ℕ → Walk → After
-step nodes count s w = stepAt nodes count s w (comingNext s w)
+unfoldable pub walkStep : List ℕ → ℕ → List ℕ → Walk → After
+walkStep nodes count s w = stepAt nodes count s w (comingNext s w)
 
 -- ---- what a walk has ahead
 abbrev pub rowsFrom : List ℕ → ℕ → List Row

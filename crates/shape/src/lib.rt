@@ -4,10 +4,10 @@ ghost use mathlib.Core.Bool.{true};
 ghost use lib.Dec.{leb};
 ghost use Prim.Native.Nat.{_+_, _-_, _*_, _<_};
 ghost use Rattle.store.specs.Rows.{row, rowAt};
-ghost use Rattle.shape.specs.Nodes.{visitOf, isLeaf, numbersOf, isFree, childKind, isGeometry, isChild, isAllowed, mayOpen, opened};
+ghost use Rattle.shape.specs.Nodes.{visitOf, isLeaf, numbersOf, isFree, childKind, isGeometry, isChild, isAllowed, mayOpen, frameOf};
 ghost use Rattle.shape.specs.Numbers.{textAt, isNumberAt, areNumbers};
 ghost use Rattle.shape.specs.Store.{isSome, wellFormed};
-ghost use Rattle.shape.specs.Walk.{frames, half, HasChild, frameAt, putFrame, putNext, beginning, comingIn, comingNext, passing, pushing, meeting, given, lastOf, step, areRows, wholeWalk};
+ghost use Rattle.shape.specs.Walk.{frames, half, HasChild, frameAt, putFrame, putNext, beginning, comingIn, comingNext, passingLeaf, pushing, meeting, given, lastMet, walkStep, areRows, wholeWalk};
 use kinds::DIM_XYZM;
 use kinds::KIND_GEOMETRYCOLLECTION;
 use kinds::KIND_LINESTRING;
@@ -174,7 +174,7 @@ fn may_open(v: Visit) -> bool
 // The frame of a node that is opened.
 fn opened(v: Visit) -> Frame
     requires { ⌜ mayOpen v ≡ true ⌝ }
-    ensures { λ r. ⌜ r ≡ opened v ⌝ }
+    ensures { λ r. ⌜ r ≡ frameOf v ⌝ }
 {
     let mut depth = v.parent.depth;
     if v.kind == KIND_GEOMETRYCOLLECTION {
@@ -308,7 +308,7 @@ fn has_numbers(count: usize, number: usize, need: usize) -> bool
 // A node without child rows is met: it takes its numbers.
 fn pass(cells: &mut [u32; CELLS], count: usize, w: Walk, v: Visit) -> Walked
     requires { ⌜ HasChild w v ⌝ }
-    ensures { λ r. ⌜ (r, now (cells .exit)) ≡ passing (now (cells .entry)) count w v ⌝ }
+    ensures { λ r. ⌜ (r, now (cells .exit)) ≡ passingLeaf (now (cells .entry)) count w v ⌝ }
 {
     let need = numbers_of(v);
     if has_numbers(count, v.number, need) {
@@ -414,20 +414,19 @@ pub fn enter(
 fn visit_at(nodes: &[u32], w: Walk, parent: Frame) -> Visit
     ensures { λ r. ⌜ r ≡ visitOf (w .row) (w .number) parent (rowAt (now (nodes .entry)) (w .row)) ⌝ }
 {
-    let row = store::node_at(nodes, w.row);
     Visit {
         row: w.row,
         number: w.number,
-        kind: row.kind,
-        dimension: row.dimension,
-        parts: row.parts,
+        kind: store::kind_at(nodes, w.row),
+        dimension: store::dimension_at(nodes, w.row),
+        parts: store::parts_at(nodes, w.row),
         parent,
     }
 }
 
 // The end of the walk: no row and no number is left.
 fn last(nodes: &[u32], count: usize, w: Walk) -> Met
-    ensures { λ r. ⌜ r ≡ lastOf (now (nodes .entry)) count w ⌝ }
+    ensures { λ r. ⌜ r ≡ lastMet (now (nodes .entry)) count w ⌝ }
 {
     if (store::node_room(nodes) <= w.row) & (w.number == count) {
         return Met::Done;
@@ -437,7 +436,7 @@ fn last(nodes: &[u32], count: usize, w: Walk) -> Met
 
 // What is met next of rows that have `count` numbers.
 pub fn step(nodes: &[u32], count: usize, cells: &mut [u32; CELLS], w: Walk) -> Walked
-    ensures { λ r. ⌜ (r, now (cells .exit)) ≡ step (now (nodes .entry)) count (now (cells .entry)) w ⌝ }
+    ensures { λ r. ⌜ (r, now (cells .exit)) ≡ walkStep (now (nodes .entry)) count (now (cells .entry)) w ⌝ }
 {
     let coming = next(cells, w);
     match coming {

@@ -7,10 +7,10 @@ use tokenizer::Token;
 ghost use mathlib.Core.Path.{_≡_};
 ghost use mathlib.Core.Bool.{cond};
 ghost use lib.Dec.{eqb};
-ghost use Rattle.tokenizer.specs.Tokens.{badAt};
+ghost use Rattle.tokenizer.specs.Tokens.{badAt, cursorAt, takeAt};
 ghost use Rattle.grammar.specs.Tokens.{sortBad};
 ghost use Rattle.grammar.specs.Grammar.{refusal};
-ghost use Rattle.sorts.specs.Seen.{seen, Clips, Spells, Told, Takes, Looks};
+ghost use Rattle.sorts.specs.Taken.{taken, clipped, speltAs, told, takenAt};
 
 pub const NONE: u32 = 0;
 
@@ -26,13 +26,14 @@ pub const NUMBER: u32 = 5;
 
 pub const WORD: u32 = 6;
 
-// A token's sort and place, the span of a number's text or of a word, and the cursor to go on with.
-pub struct Seen {
+// A token that was taken: its sort and place, the span of a number's text or of a word, and the place behind it, where
+// nothing is held.
+pub struct Taken {
     pub sort: u32,
     pub place: usize,
     pub start: usize,
     pub len: usize,
-    pub next: Cursor,
+    pub at: usize,
 }
 
 struct Clipped {
@@ -42,7 +43,7 @@ struct Clipped {
 
 // A span without what lies past the text's end. No cursor that was made by this library holds such a span.
 fn clip(text: &[u8], start: usize, len: usize) -> Clipped
-    ensures { λ r. ⌜ Clips (now (text .entry)) start len r ⌝ }
+    ensures { λ r. ⌜ r ≡ clipped (now (text .entry)) start len ⌝ }
 {
     if text.len() <= start {
         return Clipped {
@@ -59,100 +60,70 @@ fn clip(text: &[u8], start: usize, len: usize) -> Clipped
 }
 
 // A token whose text is not asked for.
-fn mark(sort: u32, place: usize, next: Cursor) -> Seen
-    ensures { λ r. ⌜ r ≡ seen sort place 0 0 next ⌝ }
+fn mark(sort: u32, place: usize, at: usize) -> Taken
+    ensures { λ r. ⌜ r ≡ taken sort place 0 0 at ⌝ }
 {
-    Seen {
+    Taken {
         sort,
         place,
         start: 0,
         len: 0,
-        next,
+        at,
     }
 }
 
 // A token with the span of its text.
-fn spelt(text: &[u8], sort: u32, place: usize, start: usize, len: usize, next: Cursor) -> Seen
-    ensures { λ r. ⌜ Spells (now (text .entry)) sort place start len next r ⌝ }
+fn spelt(text: &[u8], sort: u32, place: usize, start: usize, len: usize, at: usize) -> Taken
+    ensures { λ r. ⌜ r ≡ speltAs (now (text .entry)) sort place start len at ⌝ }
 {
     let part = clip(text, start, len);
-    Seen {
+    Taken {
         sort,
         place,
         start: part.start,
         len: part.len,
-        next,
+        at,
     }
 }
 
 // What is told of a token that was found.
-fn told(text: &[u8], found: Found, next: Cursor) -> Seen
-    ensures { λ r. ⌜ Told (now (text .entry)) found next r ⌝ }
+fn told(text: &[u8], found: Found, at: usize) -> Taken
+    ensures { λ r. ⌜ r ≡ told (now (text .entry)) found at ⌝ }
 {
     match found {
-        Found::NoToken(place) => mark(NONE, place, next),
-        Found::BadNumber(place) => mark(BAD, place, next),
+        Found::NoToken(place) => mark(NONE, place, at),
+        Found::BadNumber(place) => mark(BAD, place, at),
         Found::Is(place, token) => match token {
-            Token::ParenOpen => mark(OPEN, place, next),
-            Token::ParenClose => mark(CLOSE, place, next),
-            Token::Comma => mark(COMMA, place, next),
-            Token::Number(start, len) => spelt(text, NUMBER, place, start, len, next),
-            Token::Word(start, len) => spelt(text, WORD, place, start, len, next),
+            Token::ParenOpen => mark(OPEN, place, at),
+            Token::ParenClose => mark(CLOSE, place, at),
+            Token::Comma => mark(COMMA, place, at),
+            Token::Number(start, len) => spelt(text, NUMBER, place, start, len, at),
+            Token::Word(start, len) => spelt(text, WORD, place, start, len, at),
         },
     }
 }
 
-// The next token where most often nothing is held.
-fn read_on(text: &[u8], cursor: Cursor) -> Seen
-    ensures { λ r. ⌜ Takes (now (text .entry)) cursor r ⌝ }
+// The next token where nothing is held.
+pub fn take_at(text: &[u8], at: usize) -> Taken
+    ensures { λ r. ⌜ r ≡ takenAt (now (text .entry)) (cursorAt at) ⌝ }
 {
-    let at = cursor.at;
-    // Most parentheses stand right behind what they follow.
-    if cursor.stands_at(text, b'(') {
-        return mark(OPEN, at, Cursor::new(at + 1));
-    }
-    if cursor.stands_at(text, b')') {
-        return mark(CLOSE, at, Cursor::new(at + 1));
-    }
-    let step = cursor.take(text);
-    let found = step.found;
-    let next = step.next;
-    told(text, found, next)
+    let read = tokenizer::read_at(text, at);
+    let found = read.found;
+    told(text, found, read.at)
 }
 
-// The next token, which is passed over: what is held comes out as it is.
-pub fn take(text: &[u8], cursor: Cursor) -> Seen
-    ensures { λ r. ⌜ Takes (now (text .entry)) cursor r ⌝ }
+// The next token: what is held comes out as it is.
+pub fn take(text: &[u8], cursor: Cursor) -> Taken
+    ensures { λ r. ⌜ r ≡ takenAt (now (text .entry)) cursor ⌝ }
 {
     let at = cursor.at;
     let held = cursor.held;
     match held {
-        Held::Nothing => read_on(text, cursor),
-        Held::NoToken(p) => told(text, Found::NoToken(p), Cursor::new(at)),
-        Held::BadNumber(p) => told(text, Found::BadNumber(p), Cursor::new(at)),
-        Held::Is(p, token) => told(text, Found::Is(p, token), Cursor::new(at)),
+        Held::Nothing => take_at(text, at),
+        Held::NoToken(p) => told(text, Found::NoToken(p), at),
+        Held::BadNumber(p) => told(text, Found::BadNumber(p), at),
+        Held::Is(p, token) => told(text, Found::Is(p, token), at),
     }
-}
-
-// The next token, which is held and comes out again.
-pub fn look(text: &[u8], cursor: Cursor) -> Seen
-    ensures { λ r. ⌜ Looks (now (text .entry)) cursor r ⌝ }
-{
-    let at = cursor.at;
-    if cursor.stands_at(text, b'(') {
-        return mark(
-            OPEN,
-            at,
-            Cursor {
-                at: at + 1,
-                held: Held::Is(at, Token::ParenOpen),
-            },
-        );
-    }
-    let step = cursor.look(text);
-    let found = step.found;
-    let next = step.next;
-    told(text, found, next)
 }
 
 // The refusal at a token of `sort` at `place` that was taken and is not the one asked for.

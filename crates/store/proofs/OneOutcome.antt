@@ -1,12 +1,11 @@
 -- Two answers that a public function's contract allows for one input are one answer, and so are two slices that are left.
 -- Assumes nothing.
 use Prim.Native.Nat.{ℕ}
-use mathlib.Core.Path.{_≡_, ap, sym, _∙_}
+use mathlib.Core.Path.{_≡_}
 use mathlib.Core.List.{List}
 use Rattle.lists.specs.One.{One}
 use Rattle.lists.proofs.One.{one}
-use Rattle.store.specs.declared.NodeRow.{NodeRow}
-use Rattle.store.specs.Rows.{nodeWidth, numberWidth, nodeRoom, numberRoom, Row, placesOf, openRow, closeRow, putSpan, cleared, kindAt, dimensionAt, partsAt, rowAt, startAt, lengthAt, asRow}
+use Rattle.store.specs.Rows.{nodeWidth, numberWidth, nodeRoom, numberRoom, placesOf, openRow, closeRow, putSpan, cleared, kindAt, dimensionAt, partsAt, nodeColumn, spanStartAt, spanLengthAt}
 
 module _ (slice : List ℕ) where
   pub node_room-one : One (λ r. r ≡ nodeRoom slice)
@@ -25,8 +24,8 @@ module _ (slice : List ℕ) where
   clear-one from = one
 
 module _ (slice : List ℕ) (row : ℕ) where
-  pub opened_row-one : (kind dimension : ℕ) → One (λ left. left ≡ openRow slice row kind dimension)
-  opened_row-one kind dimension = one
+  pub «open_row-one» : (kind dimension : ℕ) → One (λ left. left ≡ openRow slice row kind dimension)
+  «open_row-one» kind dimension = one
 
   pub close_row-one : (parts : ℕ) → One (λ left. left ≡ closeRow slice row parts)
   close_row-one parts = one
@@ -43,16 +42,11 @@ module _ (slice : List ℕ) (row : ℕ) where
   pub parts_at-one : One (λ r. r ≡ partsAt slice row)
   parts_at-one = one
 
-  pub start_at-one : One (λ r. r ≡ startAt slice row)
+  pub node_column-one : (column : ℕ) → One (λ r. r ≡ nodeColumn slice row column)
+  node_column-one column = one
+
+  pub start_at-one : One (λ r. r ≡ spanStartAt slice row)
   start_at-one = one
 
-  pub length_at-one : One (λ r. r ≡ lengthAt slice row)
+  pub length_at-one : One (λ r. r ≡ spanLengthAt slice row)
   length_at-one = one
-
--- a row by value is the row that stands there
-fromRow : Row → NodeRow
-fromRow r = record { kind = r .kind; dimension = r .dimension; parts = r .parts }
-
-pub node_at-one : (slice : List ℕ) (row : ℕ) {r r′ : NodeRow} → asRow r ≡ rowAt slice row → asRow r′ ≡ rowAt slice row → r ≡ r′
-unfolding fromRow
-node_at-one slice row x y = ap fromRow (x ∙ sym y)

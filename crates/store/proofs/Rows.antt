@@ -10,7 +10,7 @@ use native.Mathlib.Nat.{le-of-suc-le-suc}
 use lib.Dec.{ltb}
 use lib.ListN.{length, getD, set, take, length-append}
 use Rattle.lists.proofs.Cases.{either}
-use Rattle.store.specs.Rows.{nodeWidth, numberWidth, kindColumn, dimensionColumn, partsColumn, startColumn, lengthColumn, nodeRoom, numberRoom, cell, put, firsts, Row, freshRow, closed, partsAt, spanOf, rowAt, spanAt, rowsIn, spansIn, openRow, closeRow, putSpan, closeIn, rowNumbers, spanNumbers, flatRows, flatSpans, zeros, padded, cleared}
+use Rattle.store.specs.Rows.{nodeWidth, numberWidth, kindColumn, dimensionColumn, partsColumn, startColumn, lengthColumn, nodeRoom, numberRoom, cell, put, firsts, Row, freshRow, closedRow, partsAt, spanOf, rowAt, spanAt, rowsIn, spansIn, openRow, closeRow, putSpan, closeIn, rowNumbers, spanNumbers, flatRows, flatSpans, zeros, padded, cleared}
 use Rattle.store.proofs.Cells.{put-in, put-length, put-before, put-here, put-there, snoc, firsts-length, firsts-same, firsts-put, firsts-flat}
 use Rattle.store.proofs.Zeros.{cleared-padded}
 
@@ -108,12 +108,12 @@ closeIn-length [] i v = refl
 closeIn-length (r ∷ rs) zero v = refl
 closeIn-length (r ∷ rs) (suc i) v = ap suc (closeIn-length rs i v)
 
-pub closeIn-seam : (a : List Row) (r : Row) (b : List Row) (v : ℕ) → closeIn (a ++ r ∷ b) (length a) v ≡ a ++ closed r v ∷ b
+pub closeIn-seam : (a : List Row) (r : Row) (b : List Row) (v : ℕ) → closeIn (a ++ r ∷ b) (length a) v ≡ a ++ closedRow r v b ∷ b
 unfolding closeIn
 closeIn-seam [] r b v = refl
 closeIn-seam (q ∷ a) r b v = ap (λ l. q ∷ l) (closeIn-seam a r b v)
 
-pub closeIn-at : (a : List Row) (r : Row) (b : List Row) (i v : ℕ) → length a ≡ i → closeIn (a ++ r ∷ b) i v ≡ a ++ closed r v ∷ b
+pub closeIn-at : (a : List Row) (r : Row) (b : List Row) (i v : ℕ) → length a ≡ i → closeIn (a ++ r ∷ b) i v ≡ a ++ closedRow r v b ∷ b
 closeIn-at a r b i v e = rw (← e) (closeIn-seam a r b v)
 
 pub closeIn-left : (a b : List Row) (i v : ℕ) → i < length a → closeIn (a ++ b) i v ≡ closeIn a i v ++ b
@@ -133,9 +133,9 @@ module _ (ns : List ℕ) (i v : ℕ) where
   unfolding closeRow
   closeRow-length = put-length nodeWidth ns i partsColumn (v ∷ [])
 
-  part-here : i < nodeRoom ns → rowAt (closeRow ns i v) i ≡ closed (rowAt ns i) v
+  part-here : i < nodeRoom ns → (under : List Row) → rowAt (closeRow ns i v) i ≡ closedRow (rowAt ns i) v under
   unfolding closeRow
-  part-here h =
+  part-here h under =
       let stays = put-before nodeWidth ns i partsColumn (v ∷ []) in
       rw (stays 0 (omega arith), stays 1 (omega arith), put-here nodeWidth ns i partsColumn (v ∷ []) (omega arith) h 0 (omega arith))
 
@@ -158,7 +158,7 @@ module _ (ns : List ℕ) (i v : ℕ) where
           snoc (ih ∙ closeIn-past (rowsIn ns n) i v (omega (arith, len))) (part-there n (λ z. omega arith)) ∙ sym (closeIn-past (rowsIn ns n ++ (rowAt ns n ∷ [])) i v past)
       go ih (no a) (no b) =
           let e : n ≡ i = omega arith in
-          snoc (ih ∙ closeIn-past (rowsIn ns n) i v (omega (arith, len))) (ap (rowAt (closeRow ns i v)) e ∙ part-here h) ∙ sym (ap (λ j. closeIn (rowsIn ns n ++ (rowAt ns j ∷ [])) i v) e ∙ closeIn-at (rowsIn ns n) (rowAt ns i) [] i v (len ∙ e))
+          snoc (ih ∙ closeIn-past (rowsIn ns n) i v (omega (arith, len))) (ap (rowAt (closeRow ns i v)) e ∙ part-here h []) ∙ sym (ap (λ j. closeIn (rowsIn ns n ++ (rowAt ns j ∷ [])) i v) e ∙ closeIn-at (rowsIn ns n) (rowAt ns i) [] i v (len ∙ e))
 
 -- ---- rows and their numbers
 pub rows-wide : (rs : List Row) → length (flatRows rs) ≡ length rs * nodeWidth

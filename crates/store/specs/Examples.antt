@@ -3,7 +3,7 @@ use mathlib.Core.Path.{_≡_, refl}
 use mathlib.Core.List.{List, [], _∷_, map, flatMap}
 use Prim.Native.Nat.{ℕ}
 use lib.ListN.{take}
-use Rattle.store.specs.Rows.{nodeRoom, numberRoom, placesOf, cell, put, firsts, Row, row, span, kindAt, dimensionAt, partsAt, startAt, lengthAt, nodeWidth, numberWidth, rowsIn, spansIn, openRow, closeRow, putSpan, closeIn, flatRows, flatSpans, padded, cleared}
+use Rattle.store.specs.Rows.{nodeRoom, numberRoom, placesOf, cell, put, firsts, Row, row, nodeOver, span, kindAt, dimensionAt, partsAt, nodeColumn, spanStartAt, spanLengthAt, nodeWidth, numberWidth, rowsIn, spansIn, openRow, closeRow, putSpan, closeIn, flatRows, flatSpans, padded, cleared}
 
 -- two rows, and one number that makes no row
 nodes : List ℕ
@@ -21,7 +21,7 @@ point : Row
 point = row 1 0 1
 
 all : ℕ
-unfolding nodes collection point placesOf cell put firsts rowsIn spansIn openRow closeRow putSpan closeIn flatRows flatSpans flatMap cleared
+unfolding nodes collection point placesOf cell nodeColumn put firsts rowsIn spansIn openRow closeRow putSpan closeIn flatRows flatSpans flatMap cleared
 all = 0
 
 -- seven numbers have room for two node rows, or for three number rows
@@ -68,9 +68,19 @@ widths : (_≡_ {A = ℕ} nodeWidth 3) × (_≡_ {A = ℕ} numberWidth 2)
 widths = (refl, refl)
 
 -- each column of the rows: kind, dimension, parts; start, length
-columns : (kindAt nodes 0 ≡ 7) × (dimensionAt nodes 0 ≡ 1) × (partsAt nodes 0 ≡ 9) × (startAt nodes 0 ≡ 7) × (lengthAt nodes 0 ≡ 1) × (startAt nodes 2 ≡ 0) × (lengthAt nodes 2 ≡ 1) × (startAt nodes 3 ≡ 0) × (lengthAt nodes 3 ≡ 0)
+columns : (kindAt nodes 0 ≡ 7) × (dimensionAt nodes 0 ≡ 1) × (partsAt nodes 0 ≡ 9) × (spanStartAt nodes 0 ≡ 7) × (spanLengthAt nodes 0 ≡ 1) × (spanStartAt nodes 2 ≡ 0) × (spanLengthAt nodes 2 ≡ 1) × (spanStartAt nodes 3 ≡ 0) × (spanLengthAt nodes 3 ≡ 0)
 unfolding all
 columns = (refl, refl, refl, refl, refl, refl, refl, refl, refl)
+
+-- all columns of the second row, and one past the last
+by-column : (map (nodeColumn nodes 1) (0 ∷ 1 ∷ 2 ∷ 3 ∷ []) ≡ 1 ∷ 0 ∷ 1 ∷ 0 ∷ []) × (nodeColumn nodes 0 3 ≡ 0) × (nodeColumn nodes 2 0 ≡ 0)
+unfolding all
+by-column = (refl, refl, refl)
+
+-- a collection of nine over a point: its row, and the point's after it
+over : (nodeOver 7 1 9 (point ∷ []) ≡ collection ∷ point ∷ []) × (nodeOver 1 0 1 [] ≡ point ∷ [])
+unfolding all
+over = (refl, refl)
 
 -- "rounded down": the room for node rows and for number rows of slices of 0 to 6 numbers
 rooms : (map nodeRoom sliced ≡ 0 ∷ 0 ∷ 0 ∷ 1 ∷ 1 ∷ 1 ∷ 2 ∷ []) × (map numberRoom sliced ≡ 0 ∷ 0 ∷ 1 ∷ 1 ∷ 2 ∷ 2 ∷ 3 ∷ [])

@@ -5,7 +5,6 @@ use mathlib.Core.List.{List, [], _∷_, _++_, flatMap}
 use lib.Dec.{ltb, leb}
 use lib.ListN.{length, getD, take, drop, replicate}
 use lib.Seq.{sets}
-use Rattle.store.specs.declared.NodeRow.{NodeRow}
 
 -- "Nodes are rows of three u32", "Numbers are rows of two u32": the widths stand here alone
 abbrev pub nodeWidth : ℕ
@@ -64,13 +63,20 @@ pub record Row : Type 0 where
 abbrev pub row : ℕ → ℕ → ℕ → Row
 row k d n = record { kind = k; dimension = d; parts = n }
 
--- a row that is opened: its parts aren't counted yet
+-- the row of a node of kind k and dimension d with so many parts, given the rows of all that is under it; and that row with those after it
+abbrev pub nodeRow : ℕ → ℕ → ℕ → List Row → Row
+nodeRow k d n under = row k d n
+
+abbrev pub nodeOver : ℕ → ℕ → ℕ → List Row → List Row
+nodeOver k d n under = nodeRow k d n under ∷ under
+
+-- a row that is opened: it has no parts yet, and nothing is under it
 abbrev pub freshRow : ℕ → ℕ → Row
-freshRow k d = row k d 0
+freshRow k d = nodeRow k d 0 []
 
 -- a row that is closed: "parts filled in after the children"
-abbrev pub closed : Row → ℕ → Row
-closed r parts = row (r .kind) (r .dimension) parts
+abbrev pub closedRow : Row → ℕ → List Row → Row
+closedRow r n under = nodeRow (r .kind) (r .dimension) n under
 
 -- rows as numbers
 abbrev pub rowNumbers : Row → List ℕ
@@ -92,22 +98,22 @@ partsAt ns i = cell nodeWidth ns i partsColumn
 abbrev pub rowAt : List ℕ → ℕ → Row
 rowAt ns i = row (kindAt ns i) (dimensionAt ns i) (partsAt ns i)
 
--- a row as the code gives it
-abbrev pub asRow : NodeRow → Row
-asRow r = row (r .kind) (r .dimension) (r .parts)
+-- the number in each column of a node row, for who asks for all of them: 0 where there is no such column or no such row
+unfoldable pub nodeColumn : List ℕ → ℕ → ℕ → ℕ
+nodeColumn ns i c = cond (ltb c nodeWidth) (cell nodeWidth ns i c) 0
 
-abbrev pub startAt : List ℕ → ℕ → ℕ
-startAt ms i = cell numberWidth ms i startColumn
+abbrev pub spanStartAt : List ℕ → ℕ → ℕ
+spanStartAt ms i = cell numberWidth ms i startColumn
 
-abbrev pub lengthAt : List ℕ → ℕ → ℕ
-lengthAt ms i = cell numberWidth ms i lengthColumn
+abbrev pub spanLengthAt : List ℕ → ℕ → ℕ
+spanLengthAt ms i = cell numberWidth ms i lengthColumn
 
 -- the span from `start` on, of `len` bytes
 abbrev pub spanOf : List ℕ → ℕ → ℕ → Span
 spanOf text start len = span start len (take len (drop start text))
 
 abbrev pub spanAt : List ℕ → List ℕ → ℕ → Span
-spanAt text ms i = spanOf text (startAt ms i) (lengthAt ms i)
+spanAt text ms i = spanOf text (spanStartAt ms i) (spanLengthAt ms i)
 
 -- the first n node rows
 unfoldable pub rowsIn : List ℕ → ℕ → List Row
@@ -127,10 +133,10 @@ closeRow ns i parts = put nodeWidth ns i partsColumn (parts ∷ [])
 unfoldable pub putSpan : List ℕ → ℕ → ℕ → ℕ → List ℕ
 putSpan ms i start len = put numberWidth ms i startColumn (start ∷ len ∷ [])
 
--- the rows with the one at i closed: nothing changes past the end
+-- the rows with the one at i closed, so that those after it are under it: nothing changes past the end
 unfoldable pub closeIn : List Row → ℕ → ℕ → List Row
 closeIn [] i v = []
-closeIn (r ∷ rs) zero v = closed r v ∷ rs
+closeIn (r ∷ rs) zero v = closedRow r v rs ∷ rs
 closeIn (r ∷ rs) (suc i) v = r ∷ closeIn rs i v
 
 abbrev pub spanNumbers : Span → List ℕ

@@ -1,15 +1,8 @@
 // Rows in lent slices: nodes and numbers, as document 01's "The store" lays them out.
 ghost use mathlib.Core.Path.{_≡_};
-ghost use Rattle.store.specs.Rows.{nodeWidth, numberWidth, nodeRoom, numberRoom, placesOf, openRow, closeRow, putSpan, cleared, kindAt, dimensionAt, partsAt, rowAt, startAt, lengthAt, cell, asRow};
+ghost use Rattle.store.specs.Rows.{nodeWidth, numberWidth, nodeRoom, numberRoom, placesOf, openRow, closeRow, putSpan, cleared, kindAt, dimensionAt, partsAt, nodeColumn, spanStartAt, spanLengthAt, cell};
 ghost use Prim.Native.Nat.{_≤_, _<_};
 ghost use lib.ListN.{length};
-
-// What a node row says.
-pub struct NodeRow {
-    pub kind: u32,
-    pub dimension: u32,
-    pub parts: u32,
-}
 
 pub const NODE_WIDTH: usize = 3;
 
@@ -139,25 +132,25 @@ pub fn parts_at(nodes: &[u32], row: usize) -> u32
     cell_at(nodes, NODE_WIDTH, row, PARTS)
 }
 
-// All that a node row says.
-pub fn node_at(nodes: &[u32], row: usize) -> NodeRow
-    ensures { λ r. ⌜ asRow r ≡ rowAt (now (nodes .entry)) row ⌝ }
+// The number in a column of a node row, for who asks for all NODE_WIDTH of them; 0 where there is no such column.
+pub fn node_column(nodes: &[u32], row: usize, column: usize) -> u32
+    ensures { λ r. ⌜ r ≡ nodeColumn (now (nodes .entry)) row column ⌝ }
 {
-    NodeRow {
-        kind: kind_at(nodes, row),
-        dimension: dimension_at(nodes, row),
-        parts: parts_at(nodes, row),
+    if column < NODE_WIDTH {
+        cell_at(nodes, NODE_WIDTH, row, column)
+    } else {
+        0
     }
 }
 
 pub fn start_at(numbers: &[u32], row: usize) -> u32
-    ensures { λ r. ⌜ r ≡ startAt (now (numbers .entry)) row ⌝ }
+    ensures { λ r. ⌜ r ≡ spanStartAt (now (numbers .entry)) row ⌝ }
 {
     cell_at(numbers, NUMBER_WIDTH, row, START)
 }
 
 pub fn length_at(numbers: &[u32], row: usize) -> u32
-    ensures { λ r. ⌜ r ≡ lengthAt (now (numbers .entry)) row ⌝ }
+    ensures { λ r. ⌜ r ≡ spanLengthAt (now (numbers .entry)) row ⌝ }
 {
     cell_at(numbers, NUMBER_WIDTH, row, LENGTH)
 }

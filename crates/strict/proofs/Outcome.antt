@@ -12,11 +12,11 @@ use Rattle.shape.specs.declared.Met.the-variants.{Node, End, Done, Ill}
 use Rattle.strict.specs.declared.StrictAnswer.{StrictAnswer}
 use Rattle.strict.specs.Rules.{letterA, letterB, letterC, letterD, noLetter, failsA, failsB, failsC, failsD, fault}
 use Rattle.strict.specs.Strict.{answer, firstFault}
-use Rattle.strict.specs.Outcome.{Holds, HoldsAt, Lowest, a-fails, b-fails, c-fails, d-fails, Outcome, passes, fails}
+use Rattle.strict.specs.Outcome.{RulesHold, RulesHoldAt, Lowest, a-fails, b-fails, c-fails, d-fails, Outcome, passes, fails}
 
 module _ (text numbers : List ℕ) where
   -- what is met before the nodes: an outcome of the others is one of all
-  later : (m : Met) (ms : List Met) (r : StrictAnswer) → HoldsAt text numbers m → Outcome text numbers ms r → Outcome text numbers (m ∷ ms) r
+  later : (m : Met) (ms : List Met) (r : StrictAnswer) → RulesHoldAt text numbers m → Outcome text numbers ms r → Outcome text numbers (m ∷ ms) r
   unfolding All
   later m ms r h (passes all) = passes (h, all)
   later m ms r h (fails before v after is all low) = fails (m ∷ before) v after (ap (λ (l : List Met). m ∷ l) is) (h, all) low

@@ -8,7 +8,7 @@ use Rattle.scan.specs.Front.{begins, afterOne, afterAll, isNil}
 use Rattle.words.specs.Words.{sameWord}
 use Rattle.lists.specs.Lists.{every}
 use Rattle.number.specs.Lexeme.{isNamed, isDigits, isExponent, isDecimal, isUnsigned, isLexeme}
-use Rattle.store.specs.Rows.{cell, firsts, rowsIn, spansIn}
+use Rattle.store.specs.Rows.{Row, nodeOver, cell, firsts, rowsIn, spansIn, flatRows}
 use Rattle.tree.specs.Tree.{rowsWith}
 use Rattle.tree.specs.TreeIn.{onFront, asA, times, findText, findRow, exactlyOne, atMostOne, findParts, findNode, whole}
 use Rattle.shape.specs.Visits.{walkEach, walkParts}
@@ -37,12 +37,19 @@ inf = 6 ∷ 3 ∷ []
 INF : List ℕ
 INF = 10 ∷ 3 ∷ []
 
-says : List ℕ → List ℕ → StrictAnswer
-says nodes numbers = strictOf text nodes numbers
+says : List Row → List ℕ → StrictAnswer
+says rows numbers = strictOf text (flatRows rows) numbers
 
--- a polygon of one ring with n coordinates
-ring : ℕ → List ℕ
-ring n = 3 ∷ 0 ∷ 1 ∷ 2 ∷ 0 ∷ n ∷ []
+-- a node with no rows under it
+leaf : ℕ → ℕ → ℕ → List Row
+leaf k d n = nodeOver k d n []
+
+-- a line string, and a polygon of one ring, with n coordinates
+lineString : ℕ → List Row
+lineString n = leaf 2 0 n
+
+ring : ℕ → List Row
+ring n = nodeOver 3 0 1 (lineString n)
 
 -- three coordinates of a ring
 three : List ℕ
@@ -52,7 +59,7 @@ fine : StrictAnswer
 fine = answer 0 noLetter 0
 
 all : ℕ
-unfolding text n0 n1 n2 inf INF says ring three fine begins afterOne afterAll isNil sameWord isNamed isDigits isExponent isDecimal isUnsigned isLexeme every cell firsts rowsIn spansIn width flatMap rowsWith onFront asA times findText findRow exactlyOne atMostOne findParts findNode whole walkEach walkParts textAt areNumbers areWhole treeOf walkOf sameBytes sameTexts closed failsC fault firstFault strictOf
+unfolding text n0 n1 n2 inf INF says leaf lineString ring three fine flatRows begins afterOne afterAll isNil sameWord isNamed isDigits isExponent isDecimal isUnsigned isLexeme every cell firsts rowsIn spansIn width flatMap rowsWith onFront asA times findText findRow exactlyOne atMostOne findParts findNode whole walkEach walkParts textAt areNumbers areWhole treeOf walkOf sameBytes sameTexts closed failsC fault firstFault strictOf
 all = 0
 
 -- the letters are their ASCII bytes
@@ -60,7 +67,7 @@ letters : letterA ∷ letterB ∷ letterC ∷ letterD ∷ [] ≡ bytes "ABCD"
 letters = refl
 
 -- `LINESTRING(0 1)` fails A, and so does a ring of one coordinate, at its own row
-few : (says (2 ∷ 0 ∷ 1 ∷ []) (n0 ++ n1) ≡ answer 0 letterA 0) × (says (ring 1) (n0 ++ n1) ≡ answer 0 letterA 1)
+few : (says (lineString 1) (n0 ++ n1) ≡ answer 0 letterA 0) × (says (ring 1) (n0 ++ n1) ≡ answer 0 letterA 1)
 unfolding all
 few = (refl, refl)
 
@@ -75,21 +82,21 @@ unfolding all
 closing = (refl, refl, refl, refl)
 
 -- `GEOMETRYCOLLECTION Z(POINT(0 1))` fails D at the child
-dimension : says (7 ∷ 1 ∷ 1 ∷ 1 ∷ 0 ∷ 1 ∷ []) (n0 ++ n1) ≡ answer 0 letterD 1
+dimension : says (nodeOver 7 1 1 (leaf 1 0 1)) (n0 ++ n1) ≡ answer 0 letterD 1
 unfolding all
 dimension = refl
 
 -- A and D at one node: A; D in row 1 and A in row 2: D
-order : (says (7 ∷ 1 ∷ 1 ∷ 2 ∷ 0 ∷ 1 ∷ []) (n0 ++ n1) ≡ answer 0 letterA 1) × (says (7 ∷ 0 ∷ 2 ∷ 1 ∷ 1 ∷ 0 ∷ 2 ∷ 0 ∷ 1 ∷ []) (n0 ++ n1) ≡ answer 0 letterD 1)
+order : (says (nodeOver 7 1 1 (lineString 1)) (n0 ++ n1) ≡ answer 0 letterA 1) × (says (nodeOver 7 0 2 (leaf 1 1 0 ++ lineString 1)) (n0 ++ n1) ≡ answer 0 letterD 1)
 unfolding all
 order = (refl, refl)
 
 -- a line string that is no ring need not be closed
-line : says (2 ∷ 0 ∷ 2 ∷ []) (n0 ++ n1 ++ n1 ++ n2) ≡ fine
+line : says (lineString 2) (n0 ++ n1 ++ n1 ++ n2) ≡ fine
 unfolding all
 line = refl
 
 -- a number lacks
-ill : says (2 ∷ 0 ∷ 2 ∷ []) n0 ≡ answer 22 noLetter 0
+ill : says (lineString 2) n0 ≡ answer 22 noLetter 0
 unfolding all
 ill = refl

@@ -12,18 +12,18 @@ use Rattle.strict.specs.Rules.{letterA, letterB, letterC, letterD, noLet
 use Rattle.strict.specs.Strict.{answer}
 
 -- all four rules hold at a node
-pub record Holds (text numbers : List ℕ) (v : Visit) : Type 0 where
+pub record RulesHold (text numbers : List ℕ) (v : Visit) : Type 0 where
   pub a : failsA v ≡ false
   pub b : failsB v ≡ false
   pub c : failsC text numbers v ≡ false
   pub d : failsD v ≡ false
 
 -- the rules are asked of nodes only
-abbrev pub HoldsAt : List ℕ → List ℕ → Met → Type 0
-HoldsAt text numbers (Node v) = Holds text numbers v
-HoldsAt text numbers (End i n) = Unit {0}
-HoldsAt text numbers Done = Unit {0}
-HoldsAt text numbers Ill = Unit {0}
+abbrev pub RulesHoldAt : List ℕ → List ℕ → Met → Type 0
+RulesHoldAt text numbers (Node v) = RulesHold text numbers v
+RulesHoldAt text numbers (End i n) = Unit {0}
+RulesHoldAt text numbers Done = Unit {0}
+RulesHoldAt text numbers Ill = Unit {0}
 
 -- "Several at one node: lowest letter.": the rule fails at the node, and none with a lower letter does
 pub data Lowest (text numbers : List ℕ) (v : Visit) : ℕ → Type 0 where
@@ -34,5 +34,5 @@ pub data Lowest (text numbers : List ℕ) (v : Visit) : ℕ → Type 0 where
 
 -- "First failing rule in node order, with number 0": it fails at its row, and at no node before it does one fail; or all hold at every node
 pub data Outcome (text numbers : List ℕ) (ms : List Met) : StrictAnswer → Type 0 where
-  passes : All (HoldsAt text numbers) ms → Outcome text numbers ms (answer 0 noLetter 0)
-  fails : {letter : ℕ} (before : List Met) (v : Visit) (after : List Met) → ms ≡ before ++ Node v ∷ after → All (HoldsAt text numbers) before → Lowest text numbers v letter → Outcome text numbers ms (answer 0 letter (v .row))
+  passes : All (RulesHoldAt text numbers) ms → Outcome text numbers ms (answer 0 noLetter 0)
+  fails : {letter : ℕ} (before : List Met) (v : Visit) (after : List Met) → ms ≡ before ++ Node v ∷ after → All (RulesHoldAt text numbers) before → Lowest text numbers v letter → Outcome text numbers ms (answer 0 letter (v .row))

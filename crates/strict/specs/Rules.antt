@@ -77,6 +77,6 @@ fault text numbers v =
 
 -- ---- what private functions ask
 -- n indexes from each of the two fit
-pub record Within (i j n : ℕ) : Type 0 where
+pub record BothFit (i j n : ℕ) : Type 0 where
   pub near : i + n < 2 ^ 64
   pub far : j + n < 2 ^ 64

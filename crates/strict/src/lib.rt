@@ -5,7 +5,7 @@ ghost use Rattle.refusals.specs.Refusals.{illFormedStore};
 ghost use Rattle.store.specs.Rows.{numberRoom};
 ghost use Rattle.shape.specs.declared.Met.the-variants.{Node};
 ghost use Rattle.shape.specs.Walk.{CoordinatesIn, NumbersIn, wholeWalk};
-ghost use Rattle.strict.specs.Rules.{noLetter, sameBytes, sameTexts, isRing, isShort, failsA, failsB, failsC, failsD, closed, fault, Within};
+ghost use Rattle.strict.specs.Rules.{noLetter, sameBytes, sameTexts, isRing, isShort, failsA, failsB, failsC, failsD, closed, fault, BothFit};
 ghost use Rattle.strict.specs.Strict.{answer, firstFault, orElse, ofWalk, strictOf};
 use kinds::KIND_GEOMETRYCOLLECTION;
 use kinds::KIND_LINESTRING;
@@ -45,7 +45,7 @@ fn same_bytes(a: &[u8], b: &[u8]) -> bool
 
 // Whether `width` numbers from `first` on have the texts of those from `last` on.
 fn same_texts(text: &[u8], numbers: &[u32], first: usize, last: usize, width: usize) -> bool
-    requires { ⌜ Within first last width ⌝ }
+    requires { ⌜ BothFit first last width ⌝ }
     ensures { λ r. ⌜ r ≡ sameTexts (now (text .entry)) (now (numbers .entry)) first last width ⌝ }
 {
     let mut i = 0;

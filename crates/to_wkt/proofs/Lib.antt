@@ -1,4 +1,4 @@
 pub mod Canonical
 pub mod Trees
-pub mod Whole
+pub mod PutByWalk
 pub mod OneOutcome

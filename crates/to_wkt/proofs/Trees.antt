@@ -23,12 +23,12 @@ use Rattle.canonical_text.specs.Canonical.{each, separated, putCoord, putParts,
 use Rattle.shape.specs.declared.Frame.{Frame}
 use Rattle.shape.specs.declared.Visit.{Visit}
 use Rattle.shape.specs.declared.Met.{Met}
-use Rattle.shape.specs.Nodes.{above, visitOf, isFree, opened, onward}
+use Rattle.shape.specs.Nodes.{above, visitOf, isFree, frameOf, onward}
 use Rattle.shape.specs.Visits.{Walker, walkEach, walkLeaf, walkParts, walkNest, walkPoint, walkLine, walkPolygon, walkNode, walkNothing, walkTree}
 use Rattle.shape.specs.Numbers.{textAt}
 use Rattle.shape.specs.Store.{treeOf, wellFormed, mapO, walkRoot, walkOf}
 use Rattle.shape.proofs.Stores.{grown, store-tree}
-use Rattle.to_wkt.specs.Canonical.{storeText, textOf, putNumber, putSpaced, putCoordinate, putListed, putCoordinates, putName, putComma, putHead, putBody, putNode, putMet, putAll}
+use Rattle.to_wkt.specs.Canonical.{storeText, writtenText, putNumber, putSpaced, putCoordinate, putListed, putCoordinates, putName, putComma, putHead, putBody, putNode, putMet, putAll}
 
 module _ (text numbers : List ℕ) where
   pub put-both : (a b : List Met) (r : List ℕ) → putAll text numbers (a ++ b) r ≡ putAll text numbers a (putAll text numbers b r)
@@ -122,8 +122,8 @@ module _ (text numbers : List ℕ) where
     nest-puts k d e fr f i j [] r a h = refl
     nest-puts k d e fr f i j (x ∷ xs) r a h =
         let v : Visit = visitOf i j f (rowOver k d ro (x ∷ xs)) in
-        let t = kids-put (opened v) (i + 1) j x xs (parenClose ∷ r) fr refl a h in
-        rw (ne-eqb (suc (length xs)) 0 (λ z. omega arith), e, put-both (walkEach ro nu w (opened v) (i + 1) j (x ∷ xs)) _ r, t)
+        let t = kids-put (frameOf v) (i + 1) j x xs (parenClose ∷ r) fr refl a h in
+        rw (ne-eqb (suc (length xs)) 0 (λ z. omega arith), e, put-both (walkEach ro nu w (frameOf v) (i + 1) j (x ∷ xs)) _ r, t)
 
   -- ---- names: "A child of a node of kinds 3 to 6 has no name"
   no-head : (i j : ℕ) (f : Frame) (q : Row) (r : List ℕ) → isFree (f .kind) ≡ false → putHead (visitOf i j f q) r ≡ r
@@ -208,6 +208,6 @@ module _ (text numbers : List ℕ) where
         go (some t) e h = let z : walkRoot t ≡ ms = cc in ap some (sym (put-is-tree t e) ∙ ap (λ l. putAll text numbers l []) z)
 
     -- a well-formed store has a canonical text
-    pub has-text : wellFormed text nodes numbers ≡ true → storeText text nodes numbers ≡ some (textOf text nodes numbers)
-    unfolding textOf storeText
+    pub has-text : wellFormed text nodes numbers ≡ true → storeText text nodes numbers ≡ some (writtenText text nodes numbers)
+    unfolding writtenText storeText
     has-text w = rw (grown text nodes numbers w .is)

@@ -26,8 +26,8 @@ abbrev pub theText : Option (List ℕ) → List ℕ
 theText none = []
 theText (some bytes) = bytes
 
-unfoldable pub textOf : List ℕ → List ℕ → List ℕ → List ℕ
-textOf text nodes numbers = theText (storeText text nodes numbers)
+unfoldable pub writtenText : List ℕ → List ℕ → List ℕ → List ℕ
+writtenText text nodes numbers = theText (storeText text nodes numbers)
 
 -- ---- numbers
 -- the number row i

@@ -9,7 +9,7 @@ use Rattle.scan.specs.Front.{begins, afterOne, afterAll, isNil}
 use Rattle.words.specs.Words.{sameWord}
 use Rattle.lists.specs.Lists.{every}
 use Rattle.number.specs.Lexeme.{isNamed, isDigits, isExponent, isDecimal, isUnsigned, isLexeme}
-use Rattle.store.specs.Rows.{cell, firsts, rowsIn, spansIn}
+use Rattle.store.specs.Rows.{Row, nodeOver, cell, firsts, rowsIn, spansIn, flatRows}
 use Rattle.tree.specs.Tree.{rowsWith}
 use Rattle.tree.specs.TreeIn.{onFront, asA, times, findText, findRow, exactlyOne, atMostOne, findParts, findNode, whole}
 use Rattle.canonical_text.specs.Canonical.{spell, each, separated, putParts, putNamed, putDimension, stringOf, putWith}
@@ -27,8 +27,16 @@ read = bytes "POINT(++4 +-4)"
 spans : List ℕ
 spans = 7 ∷ 2 ∷ 11 ∷ 2 ∷ []
 
-point : List ℕ
-point = 1 ∷ 0 ∷ 1 ∷ []
+-- a node with no rows under it
+leaf : ℕ → ℕ → ℕ → List Row
+leaf k d n = nodeOver k d n []
+
+point : List Row
+point = leaf 1 0 1
+
+-- a multipolygon of a polygon with a ring and of an empty one
+polygons : List Row
+polygons = nodeOver 6 0 2 (nodeOver 3 0 1 (leaf 2 0 1) ++ leaf 3 0 0)
 
 -- `1` and `2` of this text
 digits : List ℕ
@@ -41,59 +49,59 @@ n12 = 0 ∷ 1 ∷ 1 ∷ 1 ∷ []
 n32 : List ℕ
 n32 = 0 ∷ 3 ∷ 3 ∷ 1 ∷ []
 
-of : List ℕ → List ℕ → Option (List ℕ)
-of nodes numbers = storeText digits nodes numbers
+of : List Row → List ℕ → Option (List ℕ)
+of rows numbers = storeText digits (flatRows rows) numbers
 
 all : ℕ
-unfolding read spans point digits n12 of begins afterOne afterAll isNil sameWord isNamed isDigits isExponent isDecimal isUnsigned isLexeme every cell firsts rowsIn spansIn width onFront asA times findText findRow exactlyOne atMostOne findParts findNode whole spell each separated putParts putNamed putDimension stringOf putWith isAllowed childKind textAt areNumbers areWhole treeOf walkOf walkEach walkParts flatMap rowsWith storeText putNumber putSpaced putCoordinate putListed putCoordinates putName putComma putHead putBody putNode putMet putAll
+unfolding read spans leaf point polygons digits n12 of flatRows begins afterOne afterAll isNil sameWord isNamed isDigits isExponent isDecimal isUnsigned isLexeme every cell firsts rowsIn spansIn width onFront asA times findText findRow exactlyOne atMostOne findParts findNode whole spell each separated putParts putNamed putDimension stringOf putWith isAllowed childKind textAt areNumbers areWhole treeOf walkOf walkEach walkParts flatMap rowsWith storeText putNumber putSpaced putCoordinate putListed putCoordinates putName putComma putHead putBody putNode putMet putAll
 all = 0
 
 -- the kept number text `+4` gets its second plus back, `-4` none
-plused : storeText read point spans ≡ some (bytes "POINT(++4 -4)")
+plused : storeText read (flatRows point) spans ≡ some (bytes "POINT(++4 -4)")
 unfolding all
 plused = refl
 
 -- a letter gets a plus, or it would be read as a word
-letters : storeText (bytes "inf NaN -inf") (1 ∷ 1 ∷ 1 ∷ []) (0 ∷ 3 ∷ 4 ∷ 3 ∷ 8 ∷ 4 ∷ []) ≡ some (bytes "POINT Z(+inf +NaN -inf)")
+letters : storeText (bytes "inf NaN -inf") (flatRows (leaf 1 1 1)) (0 ∷ 3 ∷ 4 ∷ 3 ∷ 8 ∷ 4 ∷ []) ≡ some (bytes "POINT Z(+inf +NaN -inf)")
 unfolding all
 letters = refl
 
 -- each kind and each dimension
-point-m : of (1 ∷ 2 ∷ 1 ∷ []) (n12 ++ 0 ∷ 1 ∷ []) ≡ some (bytes "POINT M(1 2 1)")
+point-m : of (leaf 1 2 1) (n12 ++ 0 ∷ 1 ∷ []) ≡ some (bytes "POINT M(1 2 1)")
 unfolding all
 point-m = refl
 
-line : of (2 ∷ 0 ∷ 2 ∷ []) (n12 ++ n12) ≡ some (bytes "LINESTRING(1 2,1 2)")
+line : of (leaf 2 0 2) (n12 ++ n12) ≡ some (bytes "LINESTRING(1 2,1 2)")
 unfolding all
 line = refl
 
-polygon : of (3 ∷ 0 ∷ 2 ∷ 2 ∷ 0 ∷ 1 ∷ 2 ∷ 0 ∷ 0 ∷ []) n12 ≡ some (bytes "POLYGON((1 2),EMPTY)")
+polygon : of (nodeOver 3 0 2 (leaf 2 0 1 ++ leaf 2 0 0)) n12 ≡ some (bytes "POLYGON((1 2),EMPTY)")
 unfolding all
 polygon = refl
 
-multipoint : of (4 ∷ 3 ∷ 1 ∷ 1 ∷ 3 ∷ 1 ∷ []) (n12 ++ n12) ≡ some (bytes "MULTIPOINT ZM((1 2 1 2))")
+multipoint : of (nodeOver 4 3 1 (leaf 1 3 1)) (n12 ++ n12) ≡ some (bytes "MULTIPOINT ZM((1 2 1 2))")
 unfolding all
 multipoint = refl
 
-multiline : of (5 ∷ 0 ∷ 1 ∷ 2 ∷ 0 ∷ 1 ∷ []) n12 ≡ some (bytes "MULTILINESTRING((1 2))")
+multiline : of (nodeOver 5 0 1 (leaf 2 0 1)) n12 ≡ some (bytes "MULTILINESTRING((1 2))")
 unfolding all
 multiline = refl
 
-multipolygon : of (6 ∷ 0 ∷ 2 ∷ 3 ∷ 0 ∷ 1 ∷ 2 ∷ 0 ∷ 1 ∷ 3 ∷ 0 ∷ 0 ∷ []) n12 ≡ some (bytes "MULTIPOLYGON(((1 2)),EMPTY)")
+multipolygon : of polygons n12 ≡ some (bytes "MULTIPOLYGON(((1 2)),EMPTY)")
 unfolding all
 multipolygon = refl
 
-collection : of (7 ∷ 1 ∷ 3 ∷ 7 ∷ 0 ∷ 1 ∷ 1 ∷ 0 ∷ 0 ∷ 1 ∷ 0 ∷ 1 ∷ 7 ∷ 3 ∷ 0 ∷ []) n12 ≡ some (bytes "GEOMETRYCOLLECTION Z(GEOMETRYCOLLECTION(POINT EMPTY),POINT(1 2),GEOMETRYCOLLECTION ZM EMPTY)")
+collection : of (nodeOver 7 1 3 (nodeOver 7 0 1 (leaf 1 0 0) ++ leaf 1 0 1 ++ leaf 7 3 0)) n12 ≡ some (bytes "GEOMETRYCOLLECTION Z(GEOMETRYCOLLECTION(POINT EMPTY),POINT(1 2),GEOMETRYCOLLECTION ZM EMPTY)")
 unfolding all
 collection = refl
 
 -- put thing by thing as a walk meets them, it is the same text
-by-walk : mapO (λ ms. putAll digits n12 ms []) (walkOf digits (6 ∷ 0 ∷ 2 ∷ 3 ∷ 0 ∷ 1 ∷ 2 ∷ 0 ∷ 1 ∷ 3 ∷ 0 ∷ 0 ∷ []) n12) ≡ some (bytes "MULTIPOLYGON(((1 2)),EMPTY)")
+by-walk : mapO (λ ms. putAll digits n12 ms []) (walkOf digits (flatRows polygons) n12) ≡ some (bytes "MULTIPOLYGON(((1 2)),EMPTY)")
 unfolding all
 by-walk = refl
 
 -- by a walk too an EMPTY geometry in a collection has its name and a space before it, and a letter its plus
-by-walk-named : mapO (λ ms. putAll (bytes "inf2") n32 ms []) (walkOf (bytes "inf2") (7 ∷ 0 ∷ 2 ∷ 2 ∷ 1 ∷ 0 ∷ 1 ∷ 0 ∷ 1 ∷ []) n32) ≡ some (bytes "GEOMETRYCOLLECTION(LINESTRING Z EMPTY,POINT(+inf 2))")
+by-walk-named : mapO (λ ms. putAll (bytes "inf2") n32 ms []) (walkOf (bytes "inf2") (flatRows (nodeOver 7 0 2 (leaf 2 1 0 ++ leaf 1 0 1))) n32) ≡ some (bytes "GEOMETRYCOLLECTION(LINESTRING Z EMPTY,POINT(+inf 2))")
 unfolding all n32
 by-walk-named = refl
 

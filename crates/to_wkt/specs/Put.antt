@@ -4,11 +4,11 @@ use mathlib.Core.Bool.{true, false}
 use mathlib.Core.Option.{Option, none, some}
 use mathlib.Core.List.{List, []}
 use Prim.Native.Nat.{ℕ}
-use Rattle.pen.specs.Pen.{Left}
+use Rattle.pen.specs.Pen.{ToPut}
 use Rattle.shape.specs.declared.Met.{Met}
 use Rattle.to_wkt.specs.declared.PutAnswer.{PutAnswer}
 use Rattle.to_wkt.specs.Canonical.{putAll}
 
 abbrev pub PutRows : List ℕ → List ℕ → Option (List Met) → PutAnswer → List ℕ → Type 0
 PutRows text numbers none r out = r .ill ≡ true
-PutRows text numbers (some ms) r out = (r .ill ≡ false) × Left (putAll text numbers ms []) [] (r .pen) out
+PutRows text numbers (some ms) r out = (r .ill ≡ false) × ToPut (putAll text numbers ms []) [] (r .pen) out

@@ -3,4 +3,4 @@ pub mod Stream
 pub mod Sound
 pub mod Bridge
 pub mod OneOutcome
-pub mod Commas
+pub mod Marks

@@ -6,7 +6,7 @@ use mathlib.Core.List.{List}
 use Rattle.lists.specs.One.{One}
 use Rattle.lists.proofs.One.{one}
 use Rattle.tokenizer.specs.declared.Cursor.{Cursor}
-use Rattle.tokenizer.specs.Tokens.{readAt, cursorAt, takeAt, lookAt, badAt, standsAt, passComma}
+use Rattle.tokenizer.specs.Tokens.{readAt, cursorAt, takeAt, lookAt, badAt, passComma, passOpen, closesAt}
 
 pub bad_number_at-one : (text : List ℕ) (place : ℕ) → One (λ r. r ≡ badAt text place)
 bad_number_at-one text place = one
@@ -23,8 +23,11 @@ take-one text self = one
 pub look-one : (text : List ℕ) (self : Cursor) → One (λ r. r ≡ lookAt text self)
 look-one text self = one
 
-pub stands_at-one : (text : List ℕ) (mark : ℕ) (self : Cursor) → One (λ r. r ≡ standsAt text mark self)
-stands_at-one text mark self = one
-
 pub pass_comma-one : (text : List ℕ) (self : Cursor) → One (λ r. r ≡ passComma text self)
 pass_comma-one text self = one
+
+pub pass_open-one : (text : List ℕ) (self : Cursor) → One (λ r. r ≡ passOpen text self)
+pass_open-one text self = one
+
+pub closes-one : (text : List ℕ) (self : Cursor) → One (λ r. r ≡ closesAt text self)
+closes-one text self = one

@@ -18,6 +18,8 @@ use Rattle.tokenizer.specs.declared.Read.{Read}
 use Rattle.tokenizer.specs.declared.Cursor.{Cursor}
 use Rattle.tokenizer.specs.declared.Step.{Step}
 use Rattle.tokenizer.specs.declared.Passed.{Passed}
+use Rattle.tokenizer.specs.declared.PassedOpen.{PassedOpen}
+use Rattle.tokenizer.specs.declared.Closes.{Closes}
 use Rattle.tokenizer.specs.declared.Refusal.{Refusal}
 
 abbrev pub read : Found → ℕ → Read
@@ -136,3 +138,51 @@ passBy s = cond (isComma (s .found)) (passed true (cursorAt (s .next .at))) (pas
 
 unfoldable pub passComma : List ℕ → Cursor → Passed
 passComma text c = passBy (lookAt text c)
+
+abbrev pub isOpenToken : Token → Bool
+isOpenToken Comma = false
+isOpenToken (Number s l) = false
+isOpenToken ParenClose = false
+isOpenToken ParenOpen = true
+isOpenToken (Word s l) = false
+
+abbrev pub isOpen : Found → Bool
+isOpen (Found.NoToken p) = false
+isOpen (Found.BadNumber p) = false
+isOpen (Found.Is p t) = isOpenToken t
+
+-- where a token starts
+abbrev pub placeIn : Found → ℕ
+placeIn (Found.NoToken p) = p
+placeIn (Found.BadNumber p) = p
+placeIn (Found.Is p t) = p
+
+abbrev pub passedOpen : Bool → ℕ → Cursor → PassedOpen
+passedOpen b p c = record { opens = b; place = p; next = c }
+
+-- the next token is looked at, and taken if it is `(`
+abbrev pub passOpenBy : Step → PassedOpen
+passOpenBy s = cond (isOpen (s .found)) (passedOpen true (placeIn (s .found)) (cursorAt (s .next .at))) (passedOpen false (placeIn (s .found)) (s .next))
+
+unfoldable pub passOpen : List ℕ → Cursor → PassedOpen
+passOpen text c = passOpenBy (lookAt text c)
+
+abbrev pub isCloseToken : Token → Bool
+isCloseToken Comma = false
+isCloseToken (Number s l) = false
+isCloseToken ParenClose = true
+isCloseToken ParenOpen = false
+isCloseToken (Word s l) = false
+
+abbrev pub closes : Bool → ℕ → Closes
+closes b i = record { close = b; at = i }
+
+-- `)` is held, or nothing is held and it stands at the cursor; the place behind it
+unfoldable pub closesHeld : List ℕ → ℕ → Held → Closes
+closesHeld text i Held.Nothing = cond (ltb i (length text) && eqb (getD text i 0) parenClose) (closes true (i + 1)) (closes false i)
+closesHeld text i (Held.NoToken p) = closes false i
+closesHeld text i (Held.BadNumber p) = closes false i
+closesHeld text i (Held.Is p t) = closes (isCloseToken t) i
+
+abbrev pub closesAt : List ℕ → Cursor → Closes
+closesAt text c = closesHeld text (c .at) (c .held)

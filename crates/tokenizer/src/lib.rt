@@ -9,7 +9,7 @@ use scan::token_end;
 ghost use mathlib.Core.Path.{_≡_};
 ghost use Prim.Native.Nat.{_<_};
 ghost use lib.ListN.{length};
-ghost use Rattle.tokenizer.specs.Tokens.{numberAt, wordAt, readAt, cursorAt, takeAt, hold, lookAt, badAt, isNothing, isComma, standsAt, passComma};
+ghost use Rattle.tokenizer.specs.Tokens.{numberAt, wordAt, readAt, cursorAt, takeAt, hold, lookAt, badAt, isNothing, isComma, isOpen, isCloseToken, placeIn, standsAt, passComma, passOpen, closesAt};
 
 const NUL: u8 = 0;
 
@@ -61,6 +61,20 @@ pub struct Step {
 pub struct Passed {
     pub comma: bool,
     pub next: Cursor,
+}
+
+// Whether `(` was passed over, where the token starts that was looked at, and the cursor to go on with, which holds any
+// other token.
+pub struct PassedOpen {
+    pub opens: bool,
+    pub place: usize,
+    pub next: Cursor,
+}
+
+// Whether `)` is next, without a blank in front, and the place behind it.
+pub struct Closes {
+    pub close: bool,
+    pub at: usize,
 }
 
 // A refusal's number and place.
@@ -179,6 +193,44 @@ fn is_comma(found: Found) -> bool
     }
 }
 
+fn is_open(found: Found) -> bool
+    ensures { λ r. ⌜ r ≡ isOpen found ⌝ }
+{
+    match found {
+        Found::NoToken(_) => false,
+        Found::BadNumber(_) => false,
+        Found::Is(_, token) => match token {
+            Token::Comma => false,
+            Token::Number(_, _) => false,
+            Token::ParenClose => false,
+            Token::ParenOpen => true,
+            Token::Word(_, _) => false,
+        },
+    }
+}
+
+fn is_close(token: Token) -> bool
+    ensures { λ r. ⌜ r ≡ isCloseToken token ⌝ }
+{
+    match token {
+        Token::Comma => false,
+        Token::Number(_, _) => false,
+        Token::ParenClose => true,
+        Token::ParenOpen => false,
+        Token::Word(_, _) => false,
+    }
+}
+
+fn place_in(found: Found) -> usize
+    ensures { λ r. ⌜ r ≡ placeIn found ⌝ }
+{
+    match found {
+        Found::NoToken(p) => p,
+        Found::BadNumber(p) => p,
+        Found::Is(p, _) => p,
+    }
+}
+
 impl Cursor {
     // A cursor at a place of a text, with nothing held.
     pub fn new(place: usize) -> Self
@@ -191,7 +243,7 @@ impl Cursor {
     }
 
     // Whether nothing is held and the byte `mark` stands at the cursor, with no blank in front.
-    pub fn stands_at(self, text: &[u8], mark: u8) -> bool
+    fn stands_at(self, text: &[u8], mark: u8) -> bool
         ensures { λ r. ⌜ r ≡ standsAt (now (text .entry)) mark self ⌝ }
     {
         let at = self.at;
@@ -288,6 +340,70 @@ impl Cursor {
             }
         } else {
             Passed { comma: false, next }
+        }
+    }
+
+    // Looks at the next token, and takes it if it is `(`.
+    pub fn pass_open(self, text: &[u8]) -> PassedOpen
+        ensures { λ r. ⌜ r ≡ passOpen (now (text .entry)) self ⌝ }
+    {
+        let at = self.at;
+        // Most of them stand right behind what they follow.
+        if self.stands_at(text, b'(') {
+            return PassedOpen {
+                opens: true,
+                place: at,
+                next: Cursor {
+                    at: at + 1,
+                    held: Held::Nothing,
+                },
+            };
+        }
+        let step = self.look(text);
+        let found = step.found;
+        let next = step.next;
+        let place = place_in(found);
+        if is_open(found) {
+            PassedOpen {
+                opens: true,
+                place,
+                next: Cursor {
+                    at: next.at,
+                    held: Held::Nothing,
+                },
+            }
+        } else {
+            PassedOpen {
+                opens: false,
+                place,
+                next,
+            }
+        }
+    }
+
+    // Whether `)` is held, or nothing is held and it stands at the cursor.
+    pub fn closes(self, text: &[u8]) -> Closes
+        ensures { λ r. ⌜ r ≡ closesAt (now (text .entry)) self ⌝ }
+    {
+        let at = self.at;
+        let held = self.held;
+        match held {
+            Held::Nothing => {
+                if self.stands_at(text, b')') {
+                    Closes {
+                        close: true,
+                        at: at + 1,
+                    }
+                } else {
+                    Closes { close: false, at }
+                }
+            }
+            Held::NoToken(_) => Closes { close: false, at },
+            Held::BadNumber(_) => Closes { close: false, at },
+            Held::Is(_, token) => Closes {
+                close: is_close(token),
+                at,
+            },
         }
     }
 }

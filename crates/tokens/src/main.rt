@@ -4,15 +4,15 @@
 // way to come by them, a line each. By the contract of `step_by` the lines of a record have the same tokens.
 //
 // A record that is cut or of another letter is answered `bad record`.
-mod shown;
 mod ways;
 
 use libc::STDIN_FILENO;
 use printing::flush;
 use printing::least;
 use printing::put;
-use shown::put_found;
+use shown_tokens::put_found;
 use tokenizer::Cursor;
+use tokenizer::Found;
 use ways::Look;
 use ways::Way;
 use ways::step_by;
@@ -64,6 +64,12 @@ fn field(bytes: &[u8], at: usize) -> usize {
     (low + high * TWO_BYTES) as usize
 }
 
+// What was found, behind a space.
+fn put_spaced(out: &mut [u8], at: usize, found: Found) -> usize {
+    let end = put(out, at, b" ");
+    put_found(out, end, found)
+}
+
 // So many tokens from a place on, each behind a space.
 fn put_tokens(
     out: &mut [u8],
@@ -79,7 +85,7 @@ fn put_tokens(
     while i < count {
         let step = step_by(way, text, cursor, place, i);
         let found = step.found;
-        end = put_found(out, end, found);
+        end = put_spaced(out, end, found);
         cursor = step.next;
         i += 1;
     }

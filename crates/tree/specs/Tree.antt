@@ -6,7 +6,7 @@ use Prim.Native.Nat.{ℕ, zero, suc, _≤_}
 use lib.ListN.{length}
 use Rattle.number.specs.Lexeme.{isLexeme}
 use Rattle.kinds.specs.Kinds.{kindPoint, kindLineString, kindPolygon, kindMultiPoint, kindMultiLineString, kindMultiPolygon, kindGeometryCollection, dimXYZM, width}
-use Rattle.store.specs.Rows.{Row, row}
+use Rattle.store.specs.Rows.{Row, nodeRow}
 use Rattle.lists.specs.Lists.{All}
 
 -- a coordinate is its number texts
@@ -28,7 +28,7 @@ Tree (suc d) = Node (Tree d)
 -- ---- rows: "Nodes are rows of three u32 in preorder: kind [..], dimension [..], parts (coordinates for kinds 1 and 2, children otherwise)."
 -- the row of a node of kind k and dimension d that has the parts xs, each of which has its rows
 abbrev pub rowOver : {X : Type 0} → ℕ → ℕ → (X → List Row) → List X → Row
-rowOver k d f xs = row k d (length xs)
+rowOver k d f xs = nodeRow k d (length xs) (flatMap f xs)
 
 -- the row of a node, and after it the rows of its parts
 unfoldable pub rowsWith : {X : Type 0} → ℕ → ℕ → (X → List Row) → List X → List Row

@@ -12,7 +12,7 @@ use lib.ListN.{length, take, drop, length-append, length-drop}
 use lib.Seq.{take-length, take-add, drop-drop, drop-append-seam}
 use Rattle.scan.specs.Front.{rest}
 use Rattle.scan.specs.Runs.{Many, none, more}
-use Rattle.utf8.specs.Utf8.{Range, holds, table, fits, firstFit, width, firstIll, isUtf8}
+use Rattle.utf8.specs.Utf8.{Range, holds, table, fits, firstFit, charWidth, firstIll, isUtf8}
 use Rattle.scan.specs.Bytes.{isAscii}
 use Rattle.utf8.specs.Leads.{leads}
 use Rattle.utf8.specs.Characters.{Fills, full, byte, Char, char, Whole, empty, then}
@@ -65,13 +65,13 @@ module _ (b : ℕ) {row : List Range} (e : leads row b ≡ true) where
           rw g (sym (ap length d))
       go (inr m) ih = rw (above r b (not-below u m)) (ih m)
 
-fills-width : {row : List Range} {c : List ℕ} (l : List ℕ) → List·Memᴰ row table → Fills row c → (0 < length c) × (width (c ++ l) ≡ length c)
-unfolding width
+fills-width : {row : List Range} {c : List ℕ} (l : List ℕ) → List·Memᴰ row table → Fills row c → (0 < length c) × (charWidth (c ++ l) ≡ length c)
+unfolding charWidth
 fills-width l m full = absurd (not-empty table-rises m)
 fills-width l m (byte {b} {l = bs} e f) = (omega arith, fit-only b e (bs ++ l) table-rises m (fills-fits l (byte e f)) ∙ ap suc (fills-long f))
 
 -- a character at the front is what the width counts
-pub char-width : {c : List ℕ} (l : List ℕ) → Char c → (0 < length c) × (width (c ++ l) ≡ length c)
+pub char-width : {c : List ℕ} (l : List ℕ) → Char c → (0 < length c) × (charWidth (c ++ l) ≡ length c)
 char-width l (char m f) = fills-width l m f
 
 pub past-char : {c : List ℕ} (l : List ℕ) → Char c → firstIll (c ++ l) ≡ length c + firstIll l
@@ -110,31 +110,31 @@ pick (row ∷ t) l h = go (fits row l) refl h (pick t l)
     go true e h ih = (row, List·Memᴰ·head refl, fits-fills row l e)
     go false e h ih = (ih h .0, List·Memᴰ·tail (ih h .1), ih h .2)
 
-pub width-char : (l : List ℕ) → 0 < width l → Char (take (width l) l)
-unfolding width Found
+pub width-char : (l : List ℕ) → 0 < charWidth l → Char (take (charWidth l) l)
+unfolding charWidth Found
 width-char l h = let p = pick table l h in char (p .1) (p .2)
 
 -- whole characters up to the first ill-formed place, and none there
 Split : List ℕ → Type 0
-Split l = Whole (take (firstIll l) l) × (width (drop (firstIll l) l) ≡ 0)
+Split l = Whole (take (firstIll l) l) × (charWidth (drop (firstIll l) l) ≡ 0)
 
-none-here : (l : List ℕ) → width l ≡ 0 → Split l
+none-here : (l : List ℕ) → charWidth l ≡ 0 → Split l
 unfolding Split
 none-here l e = rw (no-character l e) (empty, e)
 
-one-more : (l : List ℕ) → 0 < width l → Split (drop (width l) l) → Split l
+one-more : (l : List ℕ) → 0 < charWidth l → Split (drop (charWidth l) l) → Split l
 unfolding Split
 one-more l h s =
-    rw (character (width l) l refl h)
-    (rw (take-add (width l) (firstIll (drop (width l) l)) l) (then (width-char l h) (s .0)), rw (← drop-drop (firstIll (drop (width l) l)) (width l) l) (s .1))
+    rw (character (charWidth l) l refl h)
+    (rw (take-add (charWidth l) (firstIll (drop (charWidth l) l)) l) (then (width-char l h) (s .0)), rw (← drop-drop (firstIll (drop (charWidth l) l)) (charWidth l) l) (s .1))
 
 split-by : (n : ℕ) (l : List ℕ) → length l ≤ n → Split l
 split-by zero l h = none-here l (omega (arith, width-long l))
-split-by (suc n) l h = go (width l) refl (split-by n (drop (width l) l))
+split-by (suc n) l h = go (charWidth l) refl (split-by n (drop (charWidth l) l))
   where
-    go : (w : ℕ) → width l ≡ w → (length (drop (width l) l) ≤ n → Split (drop (width l) l)) → Split l
+    go : (w : ℕ) → charWidth l ≡ w → (length (drop (charWidth l) l) ≤ n → Split (drop (charWidth l) l)) → Split l
     go zero e ih = none-here l e
-    go (suc m) e ih = one-more l (omega arith) (ih (omega (arith, length-drop (width l) l)))
+    go (suc m) e ih = one-more l (omega arith) (ih (omega (arith, length-drop (charWidth l) l)))
 
 split : (text : List ℕ) → Split text
 split text = split-by (length text) text (omega arith)
@@ -145,14 +145,14 @@ unfolding Split
 whole-before text = split text .0
 
 -- at the first ill-formed place stands no character, or the text ends
-pub width-there : (text : List ℕ) → width (rest text (firstIll text)) ≡ 0
+pub width-there : (text : List ℕ) → charWidth (rest text (firstIll text)) ≡ 0
 unfolding Split rest
 width-there text = split text .1
 
 -- "first byte where no whole character starts"
 pub none-starts : (text : List ℕ) {c : List ℕ} (l : List ℕ) → Char c → rest text (firstIll text) ≡ c ++ l → ⊥
 none-starts text {c} l k e =
-    let w : width (c ++ l) ≡ 0 = rw e at (width-there text) in
+    let w : charWidth (c ++ l) ≡ 0 = rw e at (width-there text) in
     omega (arith, char-width l k .0, char-width l k .1)
 
 pub text-whole : (text : List ℕ) → firstIll text ≡ length text → Whole text

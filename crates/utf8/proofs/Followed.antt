@@ -10,8 +10,8 @@ use borrow.Author.Tests.{leb-true, leb-false}
 use lib.ListN.{length, getD}
 use Rattle.scan.specs.Front.{rest, begins}
 use Rattle.scan.proofs.Front.{rest-in, begins-at, begins-past}
-use Rattle.utf8.specs.Utf8.{Range, _‥_, holds, fits, width}
-use Rattle.utf8.specs.Leads.{tail, widthOf, secondOf, after, ifFollowed}
+use Rattle.utf8.specs.Utf8.{Range, _‥_, holds, fits, charWidth}
+use Rattle.utf8.specs.Leads.{tail, widthOf, secondOf, followers, ifFollowed}
 use Rattle.utf8.proofs.Table.{width-first}
 
 -- where a byte that passes a test stands, the list goes on
@@ -29,21 +29,21 @@ fits-not r rs (b ∷ l) e = rw e
 
 module _ (w : ℕ) (r : Range) (n : ℕ) (l : List ℕ) (i : ℕ) where
   pub more : (m j : ℕ) → n ≡ suc m → j ≡ i + 1 → begins (holds r) (rest l i) ≡ true → ifFollowed w tail m (rest l j) ≡ ifFollowed w r n (rest l i)
-  unfolding ifFollowed after fits
+  unfolding ifFollowed followers fits
   more m j en ej e =
       let k = begins-in (holds r) l i e in
       rw (en, ej, rest-in l i k, begins-at (holds r) l i k ∙ e)
 
   pub lacks : 0 < n → begins (holds r) (rest l i) ≡ false → 0 ≡ ifFollowed w r n (rest l i)
-  unfolding ifFollowed after
+  unfolding ifFollowed followers
   lacks h e =
       let s : n ≡ suc (n - 1) = omega arith in
-      rw (s, fits-not r (after tail (n - 1)) (rest l i) e)
+      rw (s, fits-not r (followers tail (n - 1)) (rest l i) e)
 
   pub done : n ≡ 0 → w ≡ ifFollowed w r n (rest l i)
-  unfolding ifFollowed after fits
+  unfolding ifFollowed followers fits
   done en = rw en
 
 -- the width, by what the first byte tells
-pub width-rest : (l : List ℕ) (i w low high : ℕ) → i < length l → w ≡ widthOf (getD l i 0) → low ≡ secondOf (getD l i 0) .low → high ≡ secondOf (getD l i 0) .high → ifFollowed w (low ‥ high) (w - 1) (rest l (i + 1)) ≡ width (rest l i)
+pub width-rest : (l : List ℕ) (i w low high : ℕ) → i < length l → w ≡ widthOf (getD l i 0) → low ≡ secondOf (getD l i 0) .low → high ≡ secondOf (getD l i 0) .high → ifFollowed w (low ‥ high) (w - 1) (rest l (i + 1)) ≡ charWidth (rest l i)
 width-rest l i w low high h ew el eh = rw (ew, el, eh, rest-in l i h) (sym (width-first (getD l i 0) (rest l (i + 1))))

@@ -9,12 +9,12 @@ use native.Mathlib.Omega.{arith}
 use lib.Dec.{leb}
 use borrow.Author.Tests.{leb-true, lt-leb}
 use lib.ListN.{length}
-use Rattle.utf8.specs.Utf8.{Range, holds, table, fits, firstFit, width}
-use Rattle.utf8.specs.Leads.{rowOf, second, widthOf, secondOf, after, ifFollowed}
+use Rattle.utf8.specs.Utf8.{Range, holds, table, fits, firstFit, charWidth}
+use Rattle.utf8.specs.Leads.{rowOf, second, widthOf, secondOf, followers, ifFollowed}
 
 -- the ranges after the first, by the second and their number
 abbrev others : List Range → List Range
-others row = after (second row) (length row - 1)
+others row = followers (second row) (length row - 1)
 
 -- rows whose first ranges rise, from n on, and whose other ranges are such
 pub data Rising : ℕ → List (List Range) → Type 0 where
@@ -22,7 +22,7 @@ pub data Rising : ℕ → List (List Range) → Type 0 where
   up : {n : ℕ} {r : Range} {rs : List Range} {t : List (List Range)} → leb n (r .low) ≡ true → leb (r .low) (r .high) ≡ true → rs ≡ others (r ∷ rs) → Rising (suc (r .high)) t → Rising n ((r ∷ rs) ∷ t)
 
 pub table-rises : Rising 0 table
-unfolding table after
+unfolding table followers
 table-rises =
     up refl refl refl (up refl refl refl (up refl refl refl (up refl refl refl (up refl refl refl (up refl refl refl (up refl refl refl (up refl refl refl (up refl refl refl top))))))))
 
@@ -42,7 +42,7 @@ module _ (b : ℕ) (l : List ℕ) where
   Alone t row = firstFit t (b ∷ l) ≡ ifFollowed (length row) (second row) (length row - 1) l
 
   row-alone : {n : ℕ} {t : List (List Range)} → Rising n t → Alone t (rowOf t b)
-  unfolding Alone firstFit fits rowOf after ifFollowed
+  unfolding Alone firstFit fits rowOf followers ifFollowed
   row-alone top = refl
   row-alone (up {r} {rs} {t} p q s u) = go (holds r b) refl (row-alone u)
     where
@@ -50,6 +50,6 @@ module _ (b : ℕ) (l : List ℕ) where
       go true e ih = rw (too-low u (omega (arith, within r b e .1))) (ap (λ (x : List Range). cond (fits x l) (suc (length rs)) 0) s)
       go false e ih = ih
 
-  pub width-first : width (b ∷ l) ≡ ifFollowed (widthOf b) (secondOf b) (widthOf b - 1) l
-  unfolding width widthOf secondOf Alone
+  pub width-first : charWidth (b ∷ l) ≡ ifFollowed (widthOf b) (secondOf b) (widthOf b - 1) l
+  unfolding charWidth widthOf secondOf Alone
   width-first = row-alone table-rises

@@ -6,12 +6,12 @@ use Prim.Native.Nat.{ℕ}
 use lib.Dec.{eqb, leb}
 use lib.ListN.{length}
 use Rattle.lists.specs.Lists.{passing, bytesThat}
-use Rattle.utf8.specs.Utf8.{table, fits, firstFit, width, walk, firstIll, isUtf8, _‥_}
+use Rattle.utf8.specs.Utf8.{table, fits, firstFit, charWidth, walk, firstIll, isUtf8, _‥_}
 use Rattle.utf8.specs.Leads.{rowOf, widthOf, secondOf}
 
 -- what the examples open
 all : ℕ
-unfolding table fits firstFit width walk firstIll rowOf widthOf secondOf
+unfolding table fits firstFit charWidth walk firstIll rowOf widthOf secondOf
 all = 0
 
 -- `京` is E4 BA AC: whole it is one character, cut short none, after `a` none at 1
@@ -25,17 +25,17 @@ unfolding all
 broken = refl
 
 -- forms that are too long: C0 80 and E0 80 80 for NUL, F0 8F BF BF for U+FFFF
-overlong : (width (0xC0 ∷ 0x80 ∷ []) ≡ 0) × (width (0xC1 ∷ 0xBF ∷ []) ≡ 0) × (width (0xE0 ∷ 0x80 ∷ 0x80 ∷ []) ≡ 0) × (width (0xF0 ∷ 0x8F ∷ 0xBF ∷ 0xBF ∷ []) ≡ 0)
+overlong : (charWidth (0xC0 ∷ 0x80 ∷ []) ≡ 0) × (charWidth (0xC1 ∷ 0xBF ∷ []) ≡ 0) × (charWidth (0xE0 ∷ 0x80 ∷ 0x80 ∷ []) ≡ 0) × (charWidth (0xF0 ∷ 0x8F ∷ 0xBF ∷ 0xBF ∷ []) ≡ 0)
 unfolding all
 overlong = (refl, refl, refl, refl)
 
 -- the surrogates D800..DFFF are no characters; D7FF before and E000 after them are
-surrogates : (width (0xED ∷ 0xA0 ∷ 0x80 ∷ []) ≡ 0) × (width (0xED ∷ 0xBF ∷ 0xBF ∷ []) ≡ 0) × (width (0xED ∷ 0x9F ∷ 0xBF ∷ []) ≡ 3) × (width (0xEE ∷ 0x80 ∷ 0x80 ∷ []) ≡ 3)
+surrogates : (charWidth (0xED ∷ 0xA0 ∷ 0x80 ∷ []) ≡ 0) × (charWidth (0xED ∷ 0xBF ∷ 0xBF ∷ []) ≡ 0) × (charWidth (0xED ∷ 0x9F ∷ 0xBF ∷ []) ≡ 3) × (charWidth (0xEE ∷ 0x80 ∷ 0x80 ∷ []) ≡ 3)
 unfolding all
 surrogates = (refl, refl, refl, refl)
 
 -- U+10FFFF is the last character
-last : (width (0xF4 ∷ 0x8F ∷ 0xBF ∷ 0xBF ∷ []) ≡ 4) × (width (0xF4 ∷ 0x90 ∷ 0x80 ∷ 0x80 ∷ []) ≡ 0) × (width (0xF5 ∷ 0x80 ∷ 0x80 ∷ 0x80 ∷ []) ≡ 0)
+last : (charWidth (0xF4 ∷ 0x8F ∷ 0xBF ∷ 0xBF ∷ []) ≡ 4) × (charWidth (0xF4 ∷ 0x90 ∷ 0x80 ∷ 0x80 ∷ []) ≡ 0) × (charWidth (0xF5 ∷ 0x80 ∷ 0x80 ∷ 0x80 ∷ []) ≡ 0)
 unfolding all
 last = (refl, refl, refl)
 
@@ -58,7 +58,7 @@ between a b = bytesThat (λ x. leb a x && leb x b)
 -- is the list one whole character
 isChar : List ℕ → Bool
 unfolding all
-isChar c = not (eqb (length c) 0) && eqb (width c) (length c)
+isChar c = not (eqb (length c) 0) && eqb (charWidth c) (length c)
 
 -- the first bytes of characters of one, two, three and four bytes; the other bytes start none
 firsts : (bytesThat (λ b. eqb (widthOf b) 1) ≡ between 0x00 0x7F) × (bytesThat (λ b. eqb (widthOf b) 2) ≡ between 0xC2 0xDF) × (bytesThat (λ b. eqb (widthOf b) 3) ≡ between 0xE0 0xEF) × (bytesThat (λ b. eqb (widthOf b) 4) ≡ between 0xF0 0xF4) × (bytesThat (λ b. eqb (widthOf b) 0) ≡ between 0x80 0xC1 ++ between 0xF5 0xFF)

@@ -34,10 +34,10 @@ unfoldable pub secondOf : ℕ → Range
 secondOf b = second (rowOf table b)
 
 -- the ranges of n bytes: one of its own, then `tail` throughout
-unfoldable pub after : Range → ℕ → List Range
-after r zero = []
-after r (suc n) = r ∷ after tail n
+unfoldable pub followers : Range → ℕ → List Range
+followers r zero = []
+followers r (suc n) = r ∷ followers tail n
 
 -- w, where the list begins with such bytes; else 0
 unfoldable pub ifFollowed : ℕ → Range → ℕ → List ℕ → ℕ
-ifFollowed w r n l = cond (fits (after r n) l) w 0
+ifFollowed w r n l = cond (fits (followers r n) l) w 0

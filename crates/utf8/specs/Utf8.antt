@@ -46,18 +46,18 @@ firstFit [] l = 0
 firstFit (row ∷ rows) l = cond (fits row l) (length row) (firstFit rows l)
 
 -- how many bytes the character at the front has, or 0 where no whole character starts
-unfoldable pub width : List ℕ → ℕ
-width l = firstFit table l
+unfoldable pub charWidth : List ℕ → ℕ
+charWidth l = firstFit table l
 
 -- a character of `suc more` bytes, and on past its `more` other bytes; or nothing
-abbrev pub onward : ℕ → (ℕ → ℕ) → ℕ
-onward zero on = 0
-onward (suc more) on = suc (on more)
+abbrev pub pastChar : ℕ → (ℕ → ℕ) → ℕ
+pastChar zero on = 0
+pastChar (suc more) on = suc (on more)
 
 -- how far whole characters go, one after the other, where the next `skip` bytes are the rest of one
 unfoldable pub walk : ℕ → List ℕ → ℕ
 walk skip [] = 0
-walk zero (b ∷ l) = onward (width (b ∷ l)) (λ more. walk more l)
+walk zero (b ∷ l) = pastChar (charWidth (b ∷ l)) (λ more. walk more l)
 walk (suc skip) (b ∷ l) = suc (walk skip l)
 
 -- Refusal 2, "ill-formed UTF-8", its place: "first byte where no whole character starts"; the length of the text where there is none

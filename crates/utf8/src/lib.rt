@@ -4,7 +4,7 @@ ghost use mathlib.Core.Bool.{true};
 ghost use Prim.Native.Nat.{_+_, _≤_, _<_};
 ghost use lib.ListN.{length};
 ghost use Rattle.scan.specs.Front.{rest, begins};
-ghost use Rattle.utf8.specs.Utf8.{holds, _‥_, width, firstIll};
+ghost use Rattle.utf8.specs.Utf8.{holds, _‥_, charWidth, firstIll};
 ghost use Rattle.utf8.specs.Leads.{widthOf, secondOf};
 
 // Bytes below this one are characters by themselves.
@@ -64,7 +64,7 @@ fn byte_in(text: &[u8], i: usize, low: u8, high: u8) -> bool
 // How many bytes the character at `i` has, or 0 where no whole character starts.
 fn width_at(text: &[u8], i: usize) -> usize
     requires { ⌜ i < length (now text) ⌝ }
-    ensures { λ r. ⌜ r ≡ width (rest (now (text .entry)) i) ⌝ }
+    ensures { λ r. ⌜ r ≡ charWidth (rest (now (text .entry)) i) ⌝ }
 {
     let first = text[i];
     let width = width_of(first);

@@ -1,3 +1,4 @@
 pub mod Numbers
 pub mod Bodies
-pub mod Whole
+pub mod Returns
+pub mod OneOutcome

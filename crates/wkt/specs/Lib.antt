@@ -1,3 +1,3 @@
 pub mod Coords
 pub mod Parts
-pub mod Whole
+pub mod Leaves

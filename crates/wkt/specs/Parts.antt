@@ -3,12 +3,11 @@ use mathlib.Core.Bool.{cond, _&&_}
 use Prim.Native.Nat.{ℕ}
 use lib.Dec.{eqb, leb}
 use Rattle.kinds.specs.Kinds.{kindPoint, kindLineString, kindMultiPoint, kindMultiLineString, kindMultiPolygon}
-use Rattle.grammar.specs.Asks.{P}
+use Rattle.limits.specs.Limits.{depthLimit}
+use Rattle.grammar.specs.Asks.{bind}
 use Rattle.grammar.specs.Grammar as spec
-use Rattle.grammar.specs.Grammar.{Out, Got}
+use Rattle.grammar.specs.Grammar.{rootHead}
 use Rattle.grammar.specs.Reading.{enough}
-use Rattle.headings.specs.declared.Head.{Head}
-use Rattle.headings.specs.Heads.{headOf}
 use Rattle.answers.specs.Reading.{Part, listOf}
 
 abbrev pub coordOf : ℕ → Part
@@ -43,8 +42,8 @@ abbrev pub withBody : ℕ → ℕ → (ℕ → Part) → ℕ → Part
 withBody k d body p N M o = spec.opened N k d (λ i. body i N M) p o
 
 -- kinds 1 to 5 as they are; whatever else is opened is a multipolygon
-unfoldable pub plainKind : ℕ → ℕ
-plainKind k = cond (leb kindPoint k && leb k kindMultiLineString) k kindMultiPolygon
+unfoldable pub simpleKind : ℕ → ℕ
+simpleKind k = cond (leb kindPoint k && leb k kindMultiLineString) k kindMultiPolygon
 
 -- the body of kind k: those of a polygon and of a multi line string are the same
 unfoldable pub bodyOf : ℕ → ℕ → ℕ → Part
@@ -55,14 +54,16 @@ bodyOf k d i =
     (cond (eqb k kindMultiPolygon) (listOf i (polygonOf d))
     (listOf i (lineOf d)))))
 
-abbrev pub plainOf : ℕ → ℕ → ℕ → Part
-plainOf k d p N M = spec.plain N M enough k d p
+abbrev pub simpleOf : ℕ → ℕ → ℕ → Part
+simpleOf k d p N M = spec.simple N M enough k d p
 
 abbrev pub collectionOf : ℕ → ℕ → ℕ → Part
 collectionOf depth d p N M = spec.collection N M enough depth d p
 
+-- a geometry of a collection, from its name on
 abbrev pub childOf : ℕ → Part
 childOf depth N M = spec.childOf N M enough (spec.collection N M enough depth)
 
-abbrev pub geometryOf : ℕ → Head → Part
-geometryOf depth h N M o = spec.geometry N M enough depth o (headOf h)
+-- the geometry that a text begins with
+abbrev pub rootOf : Part
+rootOf N M o = bind rootHead (spec.geometry N M enough depthLimit o)

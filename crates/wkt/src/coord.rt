@@ -1,11 +1,8 @@
 // Coordinates: `types/coord.rs` of the Rust.
-use answers::After;
 use answers::Answer;
+use answers::Spot;
 use answers::State;
-use answers::Verdict;
-use answers::after_part;
-use answers::behind;
-use answers::is_read;
+use answers::state_of;
 use kinds::has_m;
 use kinds::has_z;
 use kinds::width_of;
@@ -17,72 +14,57 @@ use refusals::NO_Y;
 use refusals::NO_Z;
 use sorts::NUMBER;
 use tokenizer::Cursor;
-use tokenizer::Held;
-use tokenizer::Passed;
 use tokenizer::Refusal;
-ghost use mathlib.Core.Path.{_≡_};
 ghost use Prim.Native.Nat.{_+_, _≤_, _<_, _^_};
 ghost use lib.ListN.{length};
 ghost use Rattle.store.specs.Rows.{numberRoom};
 ghost use Rattle.grammar.specs.Grammar.{ifAsked};
-ghost use Rattle.tokenizer.specs.Tokens.{cursorAt, passComma};
-ghost use Rattle.answers.specs.declared.Verdict.the-variants.{Read};
-ghost use Rattle.answers.specs.Reading.{state, answer};
-ghost use Rattle.wkt.specs.Coords.{Ready, Free, MetNumber, MetOn, MetCoord, MetAfter, stateAt, MetPlains};
+ghost use Rattle.answers.specs.Reading.{stateOf};
+ghost use Rattle.wkt.specs.Coords.{Ready, FitsNumbers, ReadyAfter, MetNumber, MetOn, MetCoord, MetPlains};
 
 // A number and its row, or the refusal `missing`.
 fn number(text: &[u8], numbers: &mut [u32], missing: u32, s: State) -> Answer
     requires { ⌜ Ready (now text) (now numbers) s ⌝ }
     ensures { λ r. ⌜ MetNumber (now (text .entry)) missing s (now (numbers .entry)) r (now (numbers .exit)) ⌝ }
 {
-    let rows = s.nodes;
     let used = s.numbers;
-    let cursor = s.cursor;
-    let token = sorts::take(text, cursor);
-    let next = token.next;
-    let state = State {
-        cursor: next,
-        nodes: rows,
-        numbers: used,
-    };
+    let token = sorts::take(text, s.cursor);
     if token.sort != NUMBER {
-        let r = sorts::refusal_at(text, missing, token.sort, token.place);
-        return Answer {
-            state,
-            verdict: Verdict::Refused(r),
-        };
+        return Answer::Refused(
+            sorts::refusal_at(text, missing, token.sort, token.place),
+            Cursor::new(token.at),
+        );
     }
     if used < store::number_room(numbers) {
         store::put_number(numbers, used, token.start as u32, token.len as u32);
-        return Answer {
-            state: State {
-                cursor: next,
-                nodes: rows,
-                numbers: used + 1,
-            },
-            verdict: Verdict::Read,
-        };
+        return Answer::Read(Spot {
+            at: token.at,
+            nodes: s.nodes,
+            numbers: used + 1,
+        });
     }
-    Answer {
-        state,
-        verdict: Verdict::Stopped(Refusal {
+    Answer::Stopped(
+        Refusal {
             number: NO_NUMBER_ROW,
             place: token.place,
-        }),
-    }
+        },
+        Cursor::new(token.at),
+    )
 }
 
 // One number more, if the dimension asks for it and what came before it was read.
 fn then_number(text: &[u8], numbers: &mut [u32], asked: bool, missing: u32, prior: Answer) -> Answer
-    requires { ⌜ Ready (now text) (now numbers) (prior .state) ⌝ }
+    requires { ⌜ ReadyAfter (now text) (now numbers) prior ⌝ }
     ensures { λ r. ⌜ MetOn (now (text .entry)) (λ M. ifAsked M asked missing) prior (now (numbers .entry)) r (now (numbers .exit)) ⌝ }
 {
-    let s = prior.state;
-    let verdict = prior.verdict;
-    if asked & is_read(verdict) {
-        return number(text, numbers, missing, s);
+    let Answer::Read(end) = prior else {
+        return prior;
+    };
+    if asked {
+        number(text, numbers, missing, state_of(end))
+    } else {
+        prior
     }
-    prior
 }
 
 // X, Y, then Z and M as the dimension asks, a token for each.
@@ -96,8 +78,15 @@ pub(crate) fn by_tokens(text: &[u8], numbers: &mut [u32], dimension: u32, s: Sta
     then_number(text, numbers, has_m(dimension), NO_M, z)
 }
 
-// So many plain numbers and their rows: the place to read on from, or `at` where there are fewer, or no room for them.
-pub(crate) fn plain(text: &[u8], numbers: &mut [u32], width: usize, at: usize, used: usize) -> usize
+// The plain numbers of a coordinate and their rows: the place to read on from, or `at` where there are fewer, or no room for
+// them.
+pub(crate) fn plain_coord(
+    text: &[u8],
+    numbers: &mut [u32],
+    width: usize,
+    at: usize,
+    used: usize,
+) -> usize
     requires { ⌜ (length (now text) + 2 < 2 ^ 32) × (used ≤ numberRoom (now numbers)) × (width ≤ 4) ⌝ }
     ensures { λ r. ⌜ MetPlains (now (text .entry)) width at used (now (numbers .entry)) r (now (numbers .exit)) ⌝ }
 {
@@ -119,65 +108,19 @@ pub(crate) fn plain(text: &[u8], numbers: &mut [u32], width: usize, at: usize, u
     here
 }
 
-// A comma that stands at `at`, where nothing is held.
-pub(crate) fn pass_comma_at(text: &[u8], at: usize) -> Passed
-    ensures { λ r. ⌜ r ≡ passComma (now (text .entry)) (cursorAt at) ⌝ }
-{
-    let cursor = Cursor {
-        at,
-        held: Held::Nothing,
-    };
-    cursor.pass_comma(text)
-}
-
-// What was read up to a cursor.
-pub(crate) fn read_up_to(cursor: Cursor, nodes: usize, numbers: usize) -> Answer
-    ensures { λ r. ⌜ r ≡ answer (state cursor nodes numbers) Read ⌝ }
-{
-    Answer {
-        state: State {
-            cursor,
-            nodes,
-            numbers,
-        },
-        verdict: Verdict::Read,
-    }
-}
-
-// A coordinate at `at` token by token, and what follows it.
-pub(crate) fn after_tokens(
-    text: &[u8],
-    numbers: &mut [u32],
-    dimension: u32,
-    at: usize,
-    rows: usize,
-    used: usize,
-) -> After
-    requires { ⌜ Ready (now text) (now numbers) (stateAt at rows used) ⌝ }
-    ensures { λ r. ⌜ MetAfter (now (text .entry)) dimension (stateAt at rows used) (now (numbers .entry)) r (now (numbers .exit)) ⌝ }
-{
-    let here = behind(at, rows, used);
-    let got = by_tokens(text, numbers, dimension, here);
-    after_part(text, got)
-}
-
 // A coordinate where nothing is held: plain numbers at once, whatever else token by token.
-pub(crate) fn coord(text: &[u8], numbers: &mut [u32], dimension: u32, s: State) -> Answer
-    requires { ⌜ Free (now text) (now numbers) s ⌝ }
-    ensures { λ r. ⌜ MetCoord (now (text .entry)) dimension s (now (numbers .entry)) r (now (numbers .exit)) ⌝ }
+pub(crate) fn coord(text: &[u8], numbers: &mut [u32], dimension: u32, s: Spot) -> Answer
+    requires { ⌜ FitsNumbers (now text) (now numbers) s ⌝ }
+    ensures { λ r. ⌜ MetCoord (now (text .entry)) dimension (stateOf s) (now (numbers .entry)) r (now (numbers .exit)) ⌝ }
 {
-    let cursor = s.cursor;
-    let at = cursor.at;
-    let rows = s.nodes;
-    let used = s.numbers;
     let width = width_of(dimension);
-    let end = plain(text, numbers, width, at, used);
-    if at < end {
-        let state = behind(end, rows, used + width);
-        return Answer {
-            state,
-            verdict: Verdict::Read,
-        };
+    let end = plain_coord(text, numbers, width, s.at, s.numbers);
+    if s.at < end {
+        return Answer::Read(Spot {
+            at: end,
+            nodes: s.nodes,
+            numbers: s.numbers + width,
+        });
     }
-    by_tokens(text, numbers, dimension, s)
+    by_tokens(text, numbers, dimension, state_of(s))
 }

@@ -1,19 +1,37 @@
 // Collections: `types/geometrycollection.rs` of the Rust.
 use crate::geometry;
 use answers::Answer;
-use answers::State;
-use answers::Verdict;
+use answers::Spot;
 use answers::after_part;
+use answers::after_refusal;
+use answers::at_cursor;
 use answers::closing;
-use answers::fill_parts;
-use answers::is_stopped;
-use answers::node;
-use headings::child_head;
+use answers::moved;
+use answers::open_node;
 use kinds::KIND_GEOMETRYCOLLECTION;
 use refusals::TOO_DEEP;
+use tokenizer::Cursor;
 use tokenizer::Refusal;
+ghost use mathlib.Core.Path.{_≡_};
+ghost use Rattle.refusals.specs.Refusals.{tooDeep};
+ghost use Rattle.tokenizer.specs.Tokens.{cursorAt};
+ghost use Rattle.grammar.specs.Grammar.{refusal};
+ghost use Rattle.answers.specs.declared.Answer.the-variants.{Stopped};
 ghost use Rattle.answers.specs.Reading.{Fits, Reads};
 ghost use Rattle.wkt.specs.Parts.{collectionOf};
+
+// The end of the reading at a collection whose `(` was taken at `place`, where no more may be opened.
+fn too_deep(place: usize, s: Spot) -> Answer
+    ensures { λ r. ⌜ r ≡ Stopped (refusal tooDeep place) (cursorAt (s .at)) ⌝ }
+{
+    Answer::Stopped(
+        Refusal {
+            number: TOO_DEEP,
+            place,
+        },
+        Cursor::new(s.at),
+    )
+}
 
 // A collection whose `(` was taken at `place`; with this one `depth` more may be opened.
 pub(crate) fn collection(
@@ -23,41 +41,33 @@ pub(crate) fn collection(
     dimension: u32,
     place: usize,
     depth: u32,
-    s: State,
+    s: Spot,
 ) -> Answer
     requires { ⌜ Fits (now text) (now nodes) (now numbers) s ⌝ }
     ensures { λ r. ⌜ Reads (now (text .entry)) (collectionOf depth dimension place) s (now (nodes .entry)) (now (numbers .entry)) r (now (nodes .exit)) (now (numbers .exit)) ⌝ }
 {
     if depth == 0 {
-        return Answer {
-            state: s,
-            verdict: Verdict::Stopped(Refusal {
-                number: TOO_DEEP,
-                place,
-            }),
-        };
+        return too_deep(place, s);
     }
     let row = s.nodes;
-    let begun = node(nodes, KIND_GEOMETRYCOLLECTION, dimension, place, s);
-    let mut here = begun.state;
-    let verdict = begun.verdict;
-    if is_stopped(verdict) {
+    let begun = open_node(nodes, KIND_GEOMETRYCOLLECTION, dimension, place, s);
+    let Answer::Read(first) = begun else {
         return begun;
-    }
+    };
+    let mut here = first;
     let mut parts: u32 = 0;
     loop {
-        let cursor = here.cursor;
-        let head = child_head(text, cursor);
-        let got = geometry(text, nodes, numbers, head, depth - 1, here);
-        let after = after_part(text, got);
-        let end = after.answer;
+        let got = geometry(text, nodes, numbers, depth - 1, here);
+        let Answer::Read(end) = got else {
+            return after_refusal(text, got);
+        };
         parts += 1;
-        if after.more {
-            here = end.state;
+        let passed = after_part(text, end);
+        let next = passed.next;
+        if passed.comma {
+            here = moved(next.at, end);
         } else {
-            let verdict = end.verdict;
-            fill_parts(nodes, row, parts, verdict);
-            return closing(text, end);
+            return closing(text, nodes, row, parts, at_cursor(next, end));
         }
     }
 }

@@ -8,12 +8,9 @@ mod point;
 mod polygon;
 
 use answers::Answer;
-use answers::State;
-use answers::Verdict;
-use answers::behind;
-use answers::closing;
-use answers::is_stopped;
-use answers::node;
+use answers::Spot;
+use answers::moved;
+use answers::open_node;
 use headings::Head;
 use kinds::KIND_GEOMETRYCOLLECTION;
 use kinds::KIND_LINESTRING;
@@ -34,12 +31,12 @@ ghost use lib.ListN.{length};
 ghost use Rattle.store.specs.Rows.{nodeRoom, numberRoom};
 ghost use Rattle.grammar.specs.Grammar.{refused};
 ghost use Rattle.grammar.specs.Reading.{reading};
-ghost use Rattle.headings.specs.Heads.{headEnd};
-ghost use Rattle.answers.specs.Reading.{Room, Fits, Reads, onAt};
-ghost use Rattle.wkt.specs.Parts.{plainKind, bodyOf, plainOf, geometryOf};
-ghost use Rattle.wkt.specs.Whole.{Leaves, Within, Finishes, rootIn};
+ghost use Rattle.answers.specs.Reading.{spot, Fits, Within, Reads, closedOf};
+ghost use Rattle.wkt.specs.Parts.{simpleKind, bodyOf, simpleOf, childOf, rootOf};
+ghost use Rattle.wkt.specs.Leaves.{Leaves, Finishes, rootIn};
 
-// The body of a geometry of kinds 1 to 6, whose row is `row`. That of a multi line string is a polygon's.
+// The body and the closing token of a geometry of kinds 1 to 6, whose row is `row`. The body of a multi line string is a
+// polygon's.
 fn body(
     text: &[u8],
     nodes: &mut [u32],
@@ -47,10 +44,10 @@ fn body(
     kind: u32,
     row: usize,
     dimension: u32,
-    s: State,
+    s: Spot,
 ) -> Answer
     requires { ⌜ (row < s .nodes) × Fits (now text) (now nodes) (now numbers) s ⌝ }
-    ensures { λ r. ⌜ Reads (now (text .entry)) (bodyOf kind dimension row) s (now (nodes .entry)) (now (numbers .entry)) r (now (nodes .exit)) (now (numbers .exit)) ⌝ }
+    ensures { λ r. ⌜ Reads (now (text .entry)) (closedOf (bodyOf kind dimension row)) s (now (nodes .entry)) (now (numbers .entry)) r (now (nodes .exit)) (now (numbers .exit)) ⌝ }
 {
     match kind {
         KIND_POINT => point::body(text, nodes, numbers, row, dimension, s),
@@ -62,8 +59,8 @@ fn body(
 }
 
 // The kind of a row that is opened and is no collection's: any number but 1 to 5 stands for a multipolygon.
-fn plain_kind(kind: u32) -> u32
-    ensures { λ r. ⌜ r ≡ plainKind kind ⌝ }
+fn simple_kind(kind: u32) -> u32
+    ensures { λ r. ⌜ r ≡ simpleKind kind ⌝ }
 {
     if (KIND_POINT <= kind) & (kind <= KIND_MULTILINESTRING) {
         kind
@@ -73,68 +70,81 @@ fn plain_kind(kind: u32) -> u32
 }
 
 // A geometry of kinds 1 to 6 whose `(` was taken at `place`.
-fn plain(
+fn simple(
     text: &[u8],
     nodes: &mut [u32],
     numbers: &mut [u32],
     kind: u32,
     dimension: u32,
     place: usize,
-    s: State,
+    s: Spot,
 ) -> Answer
     requires { ⌜ Fits (now text) (now nodes) (now numbers) s ⌝ }
-    ensures { λ r. ⌜ Reads (now (text .entry)) (plainOf kind dimension place) s (now (nodes .entry)) (now (numbers .entry)) r (now (nodes .exit)) (now (numbers .exit)) ⌝ }
+    ensures { λ r. ⌜ Reads (now (text .entry)) (simpleOf kind dimension place) s (now (nodes .entry)) (now (numbers .entry)) r (now (nodes .exit)) (now (numbers .exit)) ⌝ }
 {
     let row = s.nodes;
-    let named = plain_kind(kind);
-    let begun = node(nodes, named, dimension, place, s);
-    let here = begun.state;
-    let verdict = begun.verdict;
-    if is_stopped(verdict) {
+    let named = simple_kind(kind);
+    let begun = open_node(nodes, named, dimension, place, s);
+    let Answer::Read(here) = begun else {
         return begun;
-    }
-    let got = body(text, nodes, numbers, named, row, dimension, here);
-    closing(text, got)
+    };
+    body(text, nodes, numbers, named, row, dimension, here)
 }
 
-// A geometry after its name; `depth` more collections may be opened.
-fn geometry(
-    text: &[u8],
-    nodes: &mut [u32],
-    numbers: &mut [u32],
-    head: Head,
-    depth: u32,
-    s: State,
-) -> Answer
-    requires { ⌜ Room (now text) (nodeRoom (now nodes)) (numberRoom (now numbers)) s ⌝ }
-    ensures { λ r. ⌜ Reads (now (text .entry)) (geometryOf depth head) (onAt (headEnd head) s) (now (nodes .entry)) (now (numbers .entry)) r (now (nodes .exit)) (now (numbers .exit)) ⌝ }
+// A geometry of a collection, from its name on; `depth` more collections may be opened.
+fn geometry(text: &[u8], nodes: &mut [u32], numbers: &mut [u32], depth: u32, s: Spot) -> Answer
+    requires { ⌜ Fits (now text) (now nodes) (now numbers) s ⌝ }
+    ensures { λ r. ⌜ Reads (now (text .entry)) (childOf depth) s (now (nodes .entry)) (now (numbers .entry)) r (now (nodes .exit)) (now (numbers .exit)) ⌝ }
 {
-    let rows = s.nodes;
-    let used = s.numbers;
-    match head {
+    match headings::child_head(text, s.at) {
         Head::Opens(kind, dimension, place, at) => {
-            let here = behind(at, rows, used);
+            let here = moved(at, s);
             if kind == KIND_GEOMETRYCOLLECTION {
                 geometrycollection::collection(text, nodes, numbers, dimension, place, depth, here)
             } else {
-                plain(text, nodes, numbers, kind, dimension, place, here)
+                simple(text, nodes, numbers, kind, dimension, place, here)
             }
         }
-        Head::Empty(kind, dimension, place, at) => node(
-            nodes,
-            kind,
-            dimension,
-            place,
-            behind(at, rows, used),
-        ),
-        Head::Wrong(r, cursor) => Answer {
-            state: State {
-                cursor,
-                nodes: rows,
-                numbers: used,
-            },
-            verdict: Verdict::Refused(r),
-        },
+        Head::Empty(kind, dimension, place, at) => {
+            open_node(nodes, kind, dimension, place, moved(at, s))
+        }
+        Head::Wrong(r, cursor) => Answer::Refused(r, cursor),
+    }
+}
+
+// The geometry that a text begins with.
+fn root(text: &[u8], nodes: &mut [u32], numbers: &mut [u32]) -> Answer
+    requires { ⌜ length (now text) + 2 < 2 ^ 32 ⌝ }
+    ensures { λ r. ⌜ Reads (now (text .entry)) rootOf (spot 0 0 0) (now (nodes .entry)) (now (numbers .entry)) r (now (nodes .exit)) (now (numbers .exit)) ⌝ }
+{
+    match headings::root_head(text, 0) {
+        Head::Opens(kind, dimension, place, at) => {
+            let here = Spot {
+                at,
+                nodes: 0,
+                numbers: 0,
+            };
+            if kind == KIND_GEOMETRYCOLLECTION {
+                let depth = DEPTH_LIMIT;
+                geometrycollection::collection(text, nodes, numbers, dimension, place, depth, here)
+            } else {
+                simple(text, nodes, numbers, kind, dimension, place, here)
+            }
+        }
+        Head::Empty(kind, dimension, place, at) => {
+            open_node(
+                nodes,
+                kind,
+                dimension,
+                place,
+                Spot {
+                    at,
+                    nodes: 0,
+                    numbers: 0,
+                },
+            )
+        }
+        Head::Wrong(r, cursor) => Answer::Refused(r, cursor),
     }
 }
 
@@ -162,15 +172,13 @@ fn refuse(nodes: &mut [u32], numbers: &mut [u32], r: Refusal) -> ReadAnswer
 
 // What the slices are left with: the rows used and zeros, or all zeros.
 fn finish(nodes: &mut [u32], numbers: &mut [u32], got: Answer) -> ReadAnswer
-    requires { ⌜ Within (now nodes) (now numbers) (got .state) ⌝ }
+    requires { ⌜ Within (nodeRoom (now nodes)) (numberRoom (now numbers)) got ⌝ }
     ensures { λ a. ⌜ Finishes got (now (nodes .entry)) (now (numbers .entry)) a (now (nodes .exit)) (now (numbers .exit)) ⌝ }
 {
-    let s = got.state;
-    let verdict = got.verdict;
-    match verdict {
-        Verdict::Read => {
-            let rows = s.nodes;
-            let used = s.numbers;
+    match got {
+        Answer::Read(end) => {
+            let rows = end.nodes;
+            let used = end.numbers;
             store::clear(nodes, rows * NODE_WIDTH);
             store::clear(numbers, used * NUMBER_WIDTH);
             ReadAnswer {
@@ -180,8 +188,8 @@ fn finish(nodes: &mut [u32], numbers: &mut [u32], got: Answer) -> ReadAnswer
                 numbers: used,
             }
         }
-        Verdict::Refused(r) => refuse(nodes, numbers, r),
-        Verdict::Stopped(r) => refuse(nodes, numbers, r),
+        Answer::Refused(r, _) => refuse(nodes, numbers, r),
+        Answer::Stopped(r, _) => refuse(nodes, numbers, r),
     }
 }
 
@@ -190,10 +198,7 @@ fn read_root(text: &[u8], nodes: &mut [u32], numbers: &mut [u32]) -> ReadAnswer
     requires { ⌜ length (now text) + 2 < 2 ^ 32 ⌝ }
     ensures { λ a. ⌜ Leaves (rootIn (nodeRoom (now (nodes .entry))) (numberRoom (now (numbers .entry))) (now (text .entry))) (now (nodes .entry)) (now (numbers .entry)) a (now (nodes .exit)) (now (numbers .exit)) ⌝ }
 {
-    let start = behind(0, 0, 0);
-    let cursor = start.cursor;
-    let head = headings::root_head(text, cursor);
-    let got = geometry(text, nodes, numbers, head, DEPTH_LIMIT, start);
+    let got = root(text, nodes, numbers);
     finish(nodes, numbers, got)
 }
 

@@ -1,70 +1,46 @@
 // Line strings: `types/linestring.rs` of the Rust.
-use crate::coord::after_tokens;
-use crate::coord::pass_comma_at;
-use crate::coord::plain;
-use crate::coord::read_up_to;
+use crate::coord::coord;
 use answers::Answer;
-use answers::State;
-use answers::Verdict;
-use answers::behind;
+use answers::Spot;
+use answers::after_part;
+use answers::after_refusal;
+use answers::at_cursor;
 use answers::closing;
-use answers::fill_parts;
-use answers::is_stopped;
-use answers::node;
+use answers::moved;
+use answers::open_node;
 use headings::Head;
 use headings::opener;
 use kinds::KIND_LINESTRING;
-use kinds::width_of;
 ghost use Prim.Native.Nat.{_<_};
-ghost use Rattle.answers.specs.Reading.{Fits, Reads, listOf};
-ghost use Rattle.wkt.specs.Parts.{coordOf, lineInOf, lineOf};
+ghost use Rattle.answers.specs.Reading.{Fits, Reads, listOf, closedOf};
+ghost use Rattle.wkt.specs.Parts.{coordOf, lineOf, lineInOf};
 
-// Coordinates by commas, of the line string in `row`. Behind `(` and behind a comma nothing is held: from one coordinate
-// to the next a place is enough.
+// Coordinates by commas and the closing token, of the line string in `row`.
 pub(crate) fn coords(
     text: &[u8],
     nodes: &mut [u32],
     numbers: &mut [u32],
     row: usize,
     dimension: u32,
-    s: State,
+    s: Spot,
 ) -> Answer
     requires { ⌜ (row < s .nodes) × Fits (now text) (now nodes) (now numbers) s ⌝ }
-    ensures { λ r. ⌜ Reads (now (text .entry)) (listOf row (coordOf dimension)) s (now (nodes .entry)) (now (numbers .entry)) r (now (nodes .exit)) (now (numbers .exit)) ⌝ }
+    ensures { λ r. ⌜ Reads (now (text .entry)) (closedOf (listOf row (coordOf dimension))) s (now (nodes .entry)) (now (numbers .entry)) r (now (nodes .exit)) (now (numbers .exit)) ⌝ }
 {
-    let width = width_of(dimension);
-    let cursor = s.cursor;
-    let mut rows = s.nodes;
-    let mut at = cursor.at;
-    let mut used = s.numbers;
+    let mut here = s;
     let mut parts: u32 = 0;
     loop {
+        let got = coord(text, numbers, dimension, here);
+        let Answer::Read(end) = got else {
+            return after_refusal(text, got);
+        };
         parts += 1;
-        let end = plain(text, numbers, width, at, used);
-        if at < end {
-            used += width;
-            let passed = pass_comma_at(text, end);
-            let next = passed.next;
-            if passed.comma {
-                at = next.at;
-            } else {
-                store::close_row(nodes, row, parts);
-                return read_up_to(next, rows, used);
-            }
+        let passed = after_part(text, end);
+        let next = passed.next;
+        if passed.comma {
+            here = moved(next.at, end);
         } else {
-            let after = after_tokens(text, numbers, dimension, at, rows, used);
-            let last = after.answer;
-            let state = last.state;
-            let verdict = last.verdict;
-            if after.more {
-                let cursor = state.cursor;
-                rows = state.nodes;
-                at = cursor.at;
-                used = state.numbers;
-            } else {
-                fill_parts(nodes, row, parts, verdict);
-                return last;
-            }
+            return closing(text, nodes, row, parts, at_cursor(next, end));
         }
     }
 }
@@ -76,20 +52,17 @@ fn in_parens(
     numbers: &mut [u32],
     dimension: u32,
     place: usize,
-    s: State,
+    s: Spot,
 ) -> Answer
     requires { ⌜ Fits (now text) (now nodes) (now numbers) s ⌝ }
     ensures { λ r. ⌜ Reads (now (text .entry)) (lineInOf dimension place) s (now (nodes .entry)) (now (numbers .entry)) r (now (nodes .exit)) (now (numbers .exit)) ⌝ }
 {
     let row = s.nodes;
-    let begun = node(nodes, KIND_LINESTRING, dimension, place, s);
-    let here = begun.state;
-    let verdict = begun.verdict;
-    if is_stopped(verdict) {
+    let begun = open_node(nodes, KIND_LINESTRING, dimension, place, s);
+    let Answer::Read(here) = begun else {
         return begun;
-    }
-    let got = coords(text, nodes, numbers, row, dimension, here);
-    closing(text, got)
+    };
+    coords(text, nodes, numbers, row, dimension, here)
 }
 
 // A line string without a name: in parentheses, or EMPTY.
@@ -98,32 +71,14 @@ pub(crate) fn line(
     nodes: &mut [u32],
     numbers: &mut [u32],
     dimension: u32,
-    s: State,
+    s: Spot,
 ) -> Answer
     requires { ⌜ Fits (now text) (now nodes) (now numbers) s ⌝ }
     ensures { λ r. ⌜ Reads (now (text .entry)) (lineOf dimension) s (now (nodes .entry)) (now (numbers .entry)) r (now (nodes .exit)) (now (numbers .exit)) ⌝ }
 {
-    let rows = s.nodes;
-    let used = s.numbers;
-    let cursor = s.cursor;
-    let head = opener(text, KIND_LINESTRING, dimension, cursor);
-    match head {
-        Head::Opens(_, d, place, at) => in_parens(
-            text,
-            nodes,
-            numbers,
-            d,
-            place,
-            behind(at, rows, used),
-        ),
-        Head::Empty(k, d, place, at) => node(nodes, k, d, place, behind(at, rows, used)),
-        Head::Wrong(r, cursor) => Answer {
-            state: State {
-                cursor,
-                nodes: rows,
-                numbers: used,
-            },
-            verdict: Verdict::Refused(r),
-        },
+    match opener(text, KIND_LINESTRING, dimension, s.at) {
+        Head::Opens(_, d, place, at) => in_parens(text, nodes, numbers, d, place, moved(at, s)),
+        Head::Empty(k, d, place, at) => open_node(nodes, k, d, place, moved(at, s)),
+        Head::Wrong(r, cursor) => Answer::Refused(r, cursor),
     }
 }

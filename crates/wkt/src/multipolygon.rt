@@ -1,38 +1,42 @@
 // Multipolygons: `types/multipolygon.rs` of the Rust.
 use crate::polygon::polygon;
 use answers::Answer;
-use answers::State;
+use answers::Spot;
 use answers::after_part;
-use answers::fill_parts;
+use answers::after_refusal;
+use answers::at_cursor;
+use answers::closing;
+use answers::moved;
 ghost use Prim.Native.Nat.{_<_};
-ghost use Rattle.answers.specs.Reading.{Fits, Reads, listOf};
+ghost use Rattle.answers.specs.Reading.{Fits, Reads, listOf, closedOf};
 ghost use Rattle.wkt.specs.Parts.{polygonOf};
 
-// Polygons by commas, of the multipolygon in `row`.
+// Polygons by commas and the closing token, of the multipolygon in `row`.
 pub(crate) fn polygons(
     text: &[u8],
     nodes: &mut [u32],
     numbers: &mut [u32],
     row: usize,
     dimension: u32,
-    s: State,
+    s: Spot,
 ) -> Answer
     requires { ⌜ (row < s .nodes) × Fits (now text) (now nodes) (now numbers) s ⌝ }
-    ensures { λ r. ⌜ Reads (now (text .entry)) (listOf row (polygonOf dimension)) s (now (nodes .entry)) (now (numbers .entry)) r (now (nodes .exit)) (now (numbers .exit)) ⌝ }
+    ensures { λ r. ⌜ Reads (now (text .entry)) (closedOf (listOf row (polygonOf dimension))) s (now (nodes .entry)) (now (numbers .entry)) r (now (nodes .exit)) (now (numbers .exit)) ⌝ }
 {
     let mut here = s;
     let mut parts: u32 = 0;
     loop {
         let got = polygon(text, nodes, numbers, dimension, here);
-        let after = after_part(text, got);
-        let end = after.answer;
+        let Answer::Read(end) = got else {
+            return after_refusal(text, got);
+        };
         parts += 1;
-        if after.more {
-            here = end.state;
+        let passed = after_part(text, end);
+        let next = passed.next;
+        if passed.comma {
+            here = moved(next.at, end);
         } else {
-            let verdict = end.verdict;
-            fill_parts(nodes, row, parts, verdict);
-            return end;
+            return closing(text, nodes, row, parts, at_cursor(next, end));
         }
     }
 }

@@ -1,6 +1,6 @@
 -- What the entries for C leave in the four places of a lent answer, and in the slices: the answers of `wkt`, `to_wkt`,
 -- `strict` and `infer_type` in the order that document 01 names their values in ("Refusal numbers"), then zeros.
-use mathlib.Core.Path.{_≡_, sym, _∙_}
+use mathlib.Core.Path.{_≡_}
 use mathlib.Core.List.{List, [], _∷_}
 use Prim.Native.Nat.{ℕ}
 use lib.ListN.{length}
@@ -8,17 +8,12 @@ use Rattle.store.specs.Rows.{nodeRoom, numberRoom}
 use Rattle.grammar.specs.Grammar.{Got}
 use Rattle.grammar.specs.Reading.{reading}
 use Rattle.wkt.specs.declared.ReadAnswer.{ReadAnswer}
-use Rattle.wkt.specs.Whole.{Leaves, answerOf}
+use Rattle.wkt.specs.Leaves.{Leaves, answerOf}
 use Rattle.to_wkt.specs.declared.WriteAnswer.{WriteAnswer}
 use Rattle.to_wkt.specs.Canonical.{storeText}
 use Rattle.to_wkt.specs.Write as write
 use Rattle.strict.specs.declared.StrictAnswer.{StrictAnswer}
 use Rattle.infer_type.specs.declared.Inferred.{Inferred}
-use Rattle.infer_type.specs.Infer.{inferType}
-use Rattle.strict.specs.Strict.{strictOf}
-use Rattle.rooms.specs.Rooms.{enoughRows}
-use Rattle.lists.specs.One.{One}
-use Rattle.lists.proofs.One.{one}
 
 -- "The reader answers number, place, node count, number count"
 abbrev pub readPlaces : ReadAnswer → List ℕ
@@ -49,19 +44,3 @@ pub record ReadsInto (text ns ms ns′ ms′ answer : List ℕ) : Type 0 where
 pub record WritesInto (text nodes numbers out out′ answer : List ℕ) : Type 0 where
   pub bytes : write.Written text nodes numbers (length out) (write.answerOf (storeText text nodes numbers) (length out)) out′
   pub places : answer ≡ writePlaces (write.answerOf (storeText text nodes numbers) (length out))
-
--- two outcomes that the contracts allow coincide
-pub reads-one : {text ns ms ns′ ns″ ms′ ms″ answer answer′ : List ℕ} → ReadsInto text ns ms ns′ ms′ answer → ReadsInto text ns ms ns″ ms″ answer′ → (ns′ ≡ ns″) × (ms′ ≡ ms″) × (answer ≡ answer′)
-reads-one x y = (x .rows .nodes ∙ sym (y .rows .nodes), x .rows .numbers ∙ sym (y .rows .numbers), x .places ∙ sym (y .places))
-
-pub writes-one : {text nodes numbers out out′ out″ answer answer′ : List ℕ} → WritesInto text nodes numbers out out′ answer → WritesInto text nodes numbers out out″ answer′ → (out′ ≡ out″) × (answer ≡ answer′)
-writes-one x y = (x .bytes .bytes ∙ sym (y .bytes .bytes), x .places ∙ sym (y .places))
-
-pub stricts-one : (text nodes numbers : List ℕ) → One (λ answer. answer ≡ strictPlaces (strictOf text nodes numbers))
-stricts-one text nodes numbers = one
-
-pub infers-one : (text : List ℕ) → One (λ answer. answer ≡ inferPlaces (inferType text))
-infers-one text = one
-
-pub enough_rows-one : (bytes : ℕ) → One (λ r. r ≡ enoughRows bytes)
-enough_rows-one bytes = one

@@ -3,10 +3,13 @@
 use borrow.Author.Needs.{needs}
 use Rattle.headings.proofs.by_name.Statement.{statement}
 use Rattle.headings.proofs.by_name.Tie as tie
-use Rattle.grammar.proofs.Asks.{run-ret}
+use Rattle.headings.proofs.Runs.{runs-ret}
 
 enum-told : tie.Need-enum-told
 enum-told c = search needs
+
+new-requires : tie.Need-new-requires
+new-requires c κs = search needs
 
 enum-known-name : tie.Need-enum-known-name
 enum-known-name c = search needs
@@ -21,7 +24,7 @@ opener-requires : tie.Need-opener-requires
 opener-requires c κs = search needs
 
 returns : tie.Need-returns
-returns c = rw (c .enum-told .given .1) (record { is = run-ret _ _ })
+returns c = rw (c .before .enum-told .given .1, c .new .ensures) (record { is = runs-ret _ _ _ })
 
 returns-2 : tie.Need-returns-2
 returns-2 c = rw (c .before .before .name .given .1) (c .header .ensures)
@@ -34,6 +37,7 @@ by-name-spec =
     tie.close
     (tie.spec
     enum-told
+    new-requires
     enum-known-name
     header-requires
     enum-known-name-2

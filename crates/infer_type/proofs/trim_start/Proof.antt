@@ -6,18 +6,18 @@ use lib.ListN.{length}
 use borrow.Author.Needs.{needs}
 use Rattle.scan.specs.Runs.{firstNot}
 use Rattle.scan.proofs.Runs.{on, stop, past}
-use Rattle.infer_type.specs.Part.{isTrimmed, startAt}
+use Rattle.infer_type.specs.Part.{isTrimmed, trimmedAt}
 use Rattle.infer_type.proofs.trim_start.Statement.{statement}
 use Rattle.infer_type.proofs.trim_start.Tie as tie
 
 abbrev Inv-loop : tie.InvT-loop
-Inv-loop text i₀ i = firstNot isTrimmed text i ≡ startAt text
+Inv-loop text i₀ i = firstNot isTrimmed text i ≡ trimmedAt text
 
 abbrev μ-loop : tie.MeasureT-loop
 μ-loop text i₀ i = length text - i
 
 loop-holds : tie.Need-loop-holds Inv-loop μ-loop
-unfolding startAt
+unfolding trimmedAt
 loop-holds c = refl
 
 shared-slice-read-is-trimmed : tie.Need-shared-slice-read-is-trimmed Inv-loop μ-loop

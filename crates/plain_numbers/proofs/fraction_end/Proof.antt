@@ -3,13 +3,14 @@
 use borrow.Author.Needs.{needs}
 use Rattle.plain_numbers.proofs.fraction_end.Statement.{statement}
 use Rattle.plain_numbers.proofs.fraction_end.Tie as tie
-use mathlib.Core.Path.{refl, sym, ap, _∙_}
-use mathlib.Core.Bool.{false≢true}
-use borrow.Author.Tests.{eq-eqb, ne-eqb}
-use Rattle.plain_numbers.proofs.Reading.{no-fraction, past-fraction}
+use Prim.Native.Nat.{ℕ}
+use lib.ListN.{List·getD-eq-default}
+use borrow.Author.Tests.{ne-eqb}
+use Rattle.plain_numbers.specs.Plain.{fractionEnd}
 
 returns : tie.Need-returns
-returns c = past-fraction _ _ (c .if1 .taken)
+unfolding fractionEnd
+returns c = rw (List·getD-eq-default {A = ℕ} _ 0 (c .if1 .taken))
 
 shared-slice-read-if2 : tie.Need-shared-slice-read-if2
 shared-slice-read-if2 c = search needs
@@ -21,10 +22,12 @@ digits-end-requires : tie.Need-digits-end-requires
 digits-end-requires c κs = search needs
 
 returns-2 : tie.Need-returns-2
-returns-2 c = record { point = λ y. c .digits-end .ensures; none = λ n. absurd (false≢true (sym n ∙ eq-eqb _ _ (c .before .if2 .taken))) }
+unfolding fractionEnd
+returns-2 c = rw (c .before .if2 .taken) (c .digits-end .ensures)
 
 returns-3 : tie.Need-returns-3
-returns-3 c = no-fraction _ _ (ne-eqb _ _ (c .if2 .left))
+unfolding fractionEnd
+returns-3 c = rw (ne-eqb _ _ (c .if2 .left))
 
 pub fraction-end-spec : {M : Type 1} → statement M
 fraction-end-spec =

@@ -11,32 +11,8 @@ slice-aggregate-put c = search needs
 put-requires : tie.Need-put-requires
 put-requires c κs = search needs
 
-kind-at-requires : tie.Need-kind-at-requires
-kind-at-requires c κs = search needs
-
-cast-put-spaced : tie.Need-cast-put-spaced
-cast-put-spaced c = search needs
-
-put-spaced-requires : tie.Need-put-spaced-requires
-put-spaced-requires c κs = search needs
-
-dimension-at-requires : tie.Need-dimension-at-requires
-dimension-at-requires c κs = search needs
-
-cast-put-spaced-2 : tie.Need-cast-put-spaced-2
-cast-put-spaced-2 c = search needs
-
-put-spaced-requires-2 : tie.Need-put-spaced-requires-2
-put-spaced-requires-2 c κs = search needs
-
-parts-at-requires : tie.Need-parts-at-requires
-parts-at-requires c κs = search needs
-
-cast-put-spaced-3 : tie.Need-cast-put-spaced-3
-cast-put-spaced-3 c = search needs
-
-put-spaced-requires-3 : tie.Need-put-spaced-requires-3
-put-spaced-requires-3 c κs = search needs
+put-columns-requires : tie.Need-put-columns-requires
+put-columns-requires c κs = search needs
 
 slice-aggregate-put-2 : tie.Need-slice-aggregate-put-2
 slice-aggregate-put-2 c = search needs
@@ -48,7 +24,7 @@ same-length : tie.Need-same-length
 same-length c = search needs
 
 returns : tie.Need-returns
-returns c = node-put _ _ _ (c .before .before .before .before .before .before .before .before .before .before .before .before .before .before .before .before .before .before .kind-at .ensures) (c .before .before .before .before .before .before .before .before .before .before .before .before .before .dimension-at .ensures) (c .before .before .before .before .before .before .before .before .parts-at .ensures) (c .before .before .before .before .before .before .before .before .before .before .before .before .before .before .before .before .before .before .before .before .before .before .put .ensures) (c .before .before .before .before .before .before .before .before .before .before .before .before .before .before .before .before .before .put-spaced .ensures) (c .before .before .before .before .before .before .before .before .before .before .before .before .put-spaced2 .ensures) (c .before .before .before .before .before .before .before .put-spaced3 .ensures) (c .before .before .put2 .ensures)
+returns c = node-put _ _ _ (c .before .before .before .before .before .before .before .before .before .before .before .put .ensures) (c .before .before .before .before .before .before .before .put-columns .ensures) (c .before .before .put2 .ensures)
 
 pub put-node-spec : {M : Type 1} → statement M
 put-node-spec =
@@ -56,15 +32,7 @@ put-node-spec =
     (tie.spec
     slice-aggregate-put
     put-requires
-    kind-at-requires
-    cast-put-spaced
-    put-spaced-requires
-    dimension-at-requires
-    cast-put-spaced-2
-    put-spaced-requires-2
-    parts-at-requires
-    cast-put-spaced-3
-    put-spaced-requires-3
+    put-columns-requires
     slice-aggregate-put-2
     put-requires-2
     same-length

@@ -1,6 +1,6 @@
 -- `shape::has_numbers` meets its contract: a sum that could be too large is compared as a difference.
 -- Assumes nothing.
-use Rattle.shape.proofs.Frames.{none-there, some-there}
+use Rattle.shape.proofs.Sizes.{none-there, some-there}
 use Rattle.shape.proofs.has_numbers.Statement.{statement}
 use Rattle.shape.proofs.has_numbers.Tie as tie
 

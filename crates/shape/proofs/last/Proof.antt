@@ -1,7 +1,7 @@
 -- `shape::last` meets its contract: the test is the definition's.
 -- Assumes nothing.
 use borrow.Author.Needs.{needs}
-use Rattle.shape.specs.Walk.{lastOf}
+use Rattle.shape.specs.Walk.{lastMet}
 use Rattle.shape.proofs.last.Statement.{statement}
 use Rattle.shape.proofs.last.Tie as tie
 
@@ -9,11 +9,11 @@ node-room-requires : tie.Need-node-room-requires
 node-room-requires c κs = search needs
 
 returns : tie.Need-returns
-unfolding lastOf
+unfolding lastMet
 returns c = rw (← c .before .before .before .node-room .ensures, c .if1 .taken)
 
 returns-2 : tie.Need-returns-2
-unfolding lastOf
+unfolding lastMet
 returns-2 c = rw (← c .before .before .before .node-room .ensures, c .if1 .left)
 
 pub last-spec : {M : Type 1} → statement M

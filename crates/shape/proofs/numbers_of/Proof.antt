@@ -5,7 +5,7 @@ use borrow.Author.Needs.{needs}
 use borrow.Author.Tests.{le-leb, lt-leb}
 use Rattle.kinds.proofs.Widths.{width-few}
 use Rattle.shape.specs.Nodes.{numbersOf}
-use Rattle.shape.proofs.Frames.{four-fit}
+use Rattle.shape.proofs.Sizes.{four-fit}
 use Rattle.shape.proofs.numbers_of.Statement.{statement}
 use Rattle.shape.proofs.numbers_of.Tie as tie
 

@@ -5,7 +5,7 @@ use borrow.Author.Tests.{eq-eqb, ne-eqb}
 use lib.Dec.{eqb}
 use Rattle.limits.specs.Limits.{depthLimit}
 use Rattle.kinds.specs.Kinds.{kindGeometryCollection}
-use Rattle.shape.proofs.Frames.{below-limit}
+use Rattle.shape.proofs.Sizes.{below-limit}
 use Rattle.shape.proofs.opened.Statement.{statement}
 use Rattle.shape.proofs.opened.Tie as tie
 

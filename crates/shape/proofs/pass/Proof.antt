@@ -3,8 +3,8 @@
 use mathlib.Core.Path.{sym, _∙_}
 use native.Mathlib.Omega.{arith}
 use borrow.Author.Needs.{needs}
-use Rattle.shape.specs.Walk.{passing}
-use Rattle.shape.proofs.Frames.{sum-fits}
+use Rattle.shape.specs.Walk.{passingLeaf}
+use Rattle.shape.proofs.Sizes.{sum-fits}
 use Rattle.shape.proofs.pass.Statement.{statement}
 use Rattle.shape.proofs.pass.Tie as tie
 
@@ -27,11 +27,11 @@ add-t12 : tie.Need-add-t12
 add-t12 c = record { fits = sum-fits _ _ _ _ (sym (c .before .before .before .before .before .before .has-numbers .ensures) ∙ c .before .before .before .before .before .if1 .taken) (omega arith) }
 
 returns : tie.Need-returns
-unfolding passing
+unfolding passingLeaf
 returns c = rw (← c .before .before .before .before .before .before .before .numbers-of .ensures, sym (c .before .before .before .before .before .before .has-numbers .ensures) ∙ c .before .before .before .before .before .if1 .taken, ← c .before .before .put-next .ensures)
 
 returns-2 : tie.Need-returns-2
-unfolding passing
+unfolding passingLeaf
 returns-2 c = rw (← c .before .before .numbers-of .ensures, sym (c .before .has-numbers .ensures) ∙ c .if1 .left)
 
 pub pass-spec : {M : Type 1} → statement M

@@ -4,7 +4,7 @@ use mathlib.Core.Path.{sym, _∙_}
 use native.Mathlib.Omega.{arith}
 use borrow.Author.Needs.{needs}
 use Rattle.shape.specs.Walk.{pushing}
-use Rattle.shape.proofs.Frames.{both-left, both-right}
+use Rattle.shape.proofs.Sizes.{both-left, both-right}
 use Rattle.shape.proofs.push.Statement.{statement}
 use Rattle.shape.proofs.push.Tie as tie
 

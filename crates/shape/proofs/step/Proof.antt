@@ -4,7 +4,7 @@ use mathlib.Core.Path.{sym, ap, _∙_}
 use native.Mathlib.Omega.{arith}
 use borrow.Author.Needs.{needs}
 use borrow.Author.Tests.{le-ltb}
-use Rattle.shape.specs.Walk.{step}
+use Rattle.shape.specs.Walk.{walkStep}
 use Rattle.shape.proofs.Steps.{has-child, step-child}
 use Rattle.shape.proofs.step.Statement.{statement}
 use Rattle.shape.proofs.step.Tie as tie
@@ -37,15 +37,15 @@ last-requires : tie.Need-last-requires
 last-requires c κs = search needs
 
 returns-2 : tie.Need-returns-2
-unfolding step
+unfolding walkStep
 returns-2 c = rw (sym (c .before .before .before .before .before .before .next .ensures) ∙ c .before .before .before .before .coming .given .1, ← c .before .before .node-room .ensures, le-ltb _ _ (c .if1 .left))
 
 returns-3 : tie.Need-returns-3
-unfolding step
+unfolding walkStep
 returns-3 c = rw (sym (c .before .before .before .next .ensures) ∙ c .before .coming2 .given .1)
 
 returns-4 : tie.Need-returns-4
-unfolding step
+unfolding walkStep
 returns-4 c = rw (sym (c .before .before .before .next .ensures) ∙ c .before .enum-told .given .1, c .last .ensures)
 
 pub step-spec : {M : Type 1} → statement M

@@ -3,8 +3,7 @@
 use borrow.Author.Needs.{needs}
 use Rattle.sorts.proofs.told.Statement.{statement}
 use Rattle.sorts.proofs.told.Tie as tie
-use mathlib.Core.Path.{refl}
-use native.Mathlib.Omega.{arith}
+use Rattle.sorts.specs.Taken.{told}
 
 enum-known-found : tie.Need-enum-known-found
 enum-known-found c = search needs
@@ -42,39 +41,42 @@ mark-requires-5 c κs = search needs
 enum-known-token : tie.Need-enum-known-token
 enum-known-token c = search needs
 
-enum-known-token-2 : tie.Need-enum-known-token-2
-enum-known-token-2 c = search needs
-
 spelt-requires : tie.Need-spelt-requires
 spelt-requires c κs = search needs
+
+enum-known-token-2 : tie.Need-enum-known-token-2
+enum-known-token-2 c = search needs
 
 spelt-requires-2 : tie.Need-spelt-requires-2
 spelt-requires-2 c κs = search needs
 
 returns : tie.Need-returns
-returns c = rw (c .before .before .found .given .1, c .mark .ensures) (record { tells = record { sort = refl; place = refl; spelt = refl; fits = omega arith; refuses = λ e. refl }; starts = λ g z. absurd (omega (arith, z)); left = refl })
+unfolding told
+returns c = rw (c .before .before .found .given .1) (c .mark .ensures)
 
 returns-2 : tie.Need-returns-2
-returns-2 c = rw (c .before .before .found2 .given .1, c .mark2 .ensures) (record { tells = record { sort = refl; place = refl; spelt = refl; fits = omega arith; refuses = λ e. refl }; starts = λ g z. absurd (omega (arith, z)); left = refl })
+unfolding told
+returns-2 c = rw (c .before .before .found2 .given .1) (c .mark2 .ensures)
 
 returns-3 : tie.Need-returns-3
-returns-3 c = rw (c .before .before .before .before .found3 .given .1, c .before .enum-told .given .1, c .mark3 .ensures) (record { tells = record { sort = refl; place = refl; spelt = refl; fits = omega arith; refuses = λ e. refl }; starts = λ g z. absurd (omega (arith, z)); left = refl })
+unfolding told
+returns-3 c = rw (c .before .before .before .before .found3 .given .1, c .before .enum-told .given .1) (c .mark3 .ensures)
 
 returns-4 : tie.Need-returns-4
-returns-4 c = rw (c .before .before .before .before .found3 .given .1, c .before .enum-told2 .given .1, c .mark4 .ensures) (record { tells = record { sort = refl; place = refl; spelt = refl; fits = omega arith; refuses = λ e. refl }; starts = λ g z. absurd (omega (arith, z)); left = refl })
+unfolding told
+returns-4 c = rw (c .before .before .before .before .found3 .given .1, c .before .enum-told2 .given .1) (c .mark4 .ensures)
 
 returns-5 : tie.Need-returns-5
-returns-5 c = rw (c .before .before .before .before .found3 .given .1, c .before .enum-told3 .given .1, c .mark5 .ensures) (record { tells = record { sort = refl; place = refl; spelt = refl; fits = omega arith; refuses = λ e. refl }; starts = λ g z. absurd (omega (arith, z)); left = refl })
+unfolding told
+returns-5 c = rw (c .before .before .before .before .found3 .given .1, c .before .enum-told3 .given .1) (c .mark5 .ensures)
 
 returns-6 : tie.Need-returns-6
-returns-6 c =
-    let x = c .spelt .ensures in
-    rw (c .before .before .before .before .before .found3 .given .1, c .before .before .token .given .1, x .is) (record { tells = record { sort = refl; place = refl; spelt = x .part .spelt; fits = x .part .fits; refuses = λ e. refl }; starts = λ g z. x .part .kept (g .0); left = refl })
+unfolding told
+returns-6 c = rw (c .before .before .before .before .before .found3 .given .1, c .before .before .token .given .1) (c .spelt .ensures)
 
 returns-7 : tie.Need-returns-7
-returns-7 c =
-    let x = c .spelt2 .ensures in
-    rw (c .before .before .before .before .before .found3 .given .1, c .before .before .token2 .given .1, x .is) (record { tells = record { sort = refl; place = refl; spelt = x .part .spelt; fits = x .part .fits; refuses = λ e. refl }; starts = λ g z. absurd (omega (arith, z)); left = refl })
+unfolding told
+returns-7 c = rw (c .before .before .before .before .before .found3 .given .1, c .before .before .token2 .given .1) (c .spelt2 .ensures)
 
 pub told-spec : {M : Type 1} → statement M
 told-spec =

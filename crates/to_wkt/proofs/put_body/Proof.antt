@@ -6,7 +6,7 @@ use borrow.Author.Tests.{eq-eqb, ne-eqb, le-leb, lt-leb}
 use Rattle.pen.proofs.Puts.{emits, emits-then, emits-as}
 use Rattle.to_wkt.specs.Canonical.{putBody}
 use Rattle.to_wkt.proofs.Canonical.{width-wide, numbers-fit}
-use Rattle.to_wkt.proofs.Whole.{emits-full}
+use Rattle.to_wkt.proofs.PutByWalk.{emits-full}
 use Rattle.to_wkt.proofs.put_body.Statement.{statement}
 use Rattle.to_wkt.proofs.put_body.Tie as tie
 

@@ -4,7 +4,7 @@ use mathlib.Core.Path.{refl}
 use borrow.Author.Needs.{needs}
 use Rattle.pen.proofs.Puts.{emits-then, emits-as}
 use Rattle.to_wkt.specs.Canonical.{putNode}
-use Rattle.to_wkt.proofs.Whole.{emits-full}
+use Rattle.to_wkt.proofs.PutByWalk.{emits-full}
 use Rattle.to_wkt.proofs.put_node.Statement.{statement}
 use Rattle.to_wkt.proofs.put_node.Tie as tie
 

@@ -9,7 +9,7 @@ use Rattle.shape.proofs.Stepped.{ahead-of}
 use Rattle.shape.proofs.Loops.{Walking, begin, forward, turn, done, ill}
 use Rattle.pen.proofs.Puts.{emits}
 use Rattle.to_wkt.specs.Canonical.{putMet}
-use Rattle.to_wkt.proofs.Whole.{Owed, owed-none, owed-on, put-done, put-ill}
+use Rattle.to_wkt.proofs.PutByWalk.{Owed, owed-none, owed-on, put-done, put-ill}
 use Rattle.to_wkt.proofs.put_rows.Statement.{statement}
 use Rattle.to_wkt.proofs.put_rows.Tie as tie
 

@@ -4,7 +4,7 @@ use mathlib.Core.Path.{refl, sym, _∙_}
 use borrow.Author.Needs.{needs}
 use borrow.Author.Tests.{not-true, not-false}
 use Rattle.shape.proofs.Checks.{no-walk}
-use Rattle.to_wkt.proofs.Whole.{said-ill, treeless, stands, said-full, said-all}
+use Rattle.to_wkt.proofs.PutByWalk.{said-ill, treeless, stands, said-full, said-all}
 use Rattle.to_wkt.proofs.write.Statement.{statement}
 use Rattle.to_wkt.proofs.write.Tie as tie
 

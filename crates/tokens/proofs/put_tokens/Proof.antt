@@ -22,8 +22,8 @@ loop-holds c = search needs
 step-by-requires : tie.Need-step-by-requires Inv-loop μ-loop
 step-by-requires c κs = search needs
 
-put-found-requires : tie.Need-put-found-requires Inv-loop μ-loop
-put-found-requires c κs = search needs
+put-spaced-requires : tie.Need-put-spaced-requires Inv-loop μ-loop
+put-spaced-requires c κs = search needs
 
 add-i : tie.Need-add-i Inv-loop μ-loop
 add-i c = search needs
@@ -49,7 +49,7 @@ put-tokens-spec =
     new-requires
     loop-holds
     step-by-requires
-    put-found-requires
+    put-spaced-requires
     add-i
     loop-less
     loop-again

@@ -1,11 +1,11 @@
--- The loop keeps the answer: `width`, if the bytes that aren't looked at yet are as they should be.
+-- The loop keeps the answer: `charWidth`, if the bytes that aren't looked at yet are as they should be.
 -- Assumes nothing.
 use mathlib.Core.Path.{_≡_, sym, _∙_}
 use Prim.Native.Nat.{_+_, _-_, _≤_, _<_}
 use native.Mathlib.Omega.{arith}
 use lib.ListN.{length}
 use Rattle.scan.specs.Front.{rest}
-use Rattle.utf8.specs.Utf8.{_‥_, width}
+use Rattle.utf8.specs.Utf8.{_‥_, charWidth}
 use Rattle.utf8.specs.Leads.{ifFollowed}
 use Rattle.utf8.proofs.Followed.{begins-in, width-rest, more, lacks, done}
 use borrow.Author.Needs.{needs}
@@ -14,7 +14,7 @@ use Rattle.utf8.proofs.width_at.Tie as tie
 
 abbrev Inv-loop : tie.InvT-loop
 Inv-loop text i first wide low₀ high₀ have₀ low high have =
-    (i + have ≤ length text) × (ifFollowed wide (low ‥ high) (wide - have) (rest text (i + have)) ≡ width (rest text i))
+    (i + have ≤ length text) × (ifFollowed wide (low ‥ high) (wide - have) (rest text (i + have)) ≡ charWidth (rest text i))
 
 abbrev μ-loop : tie.MeasureT-loop
 μ-loop text i first wide low₀ high₀ have₀ low high have = wide - have

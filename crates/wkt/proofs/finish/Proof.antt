@@ -4,31 +4,31 @@ use borrow.Author.Needs.{needs}
 use Rattle.wkt.proofs.finish.Statement.{statement}
 use Rattle.wkt.proofs.finish.Tie as tie
 use native.Mathlib.Omega.{arith}
-use Rattle.wkt.proofs.Whole.{finish-done, finish-refused, finish-stopped}
+use Rattle.wkt.proofs.Returns.{finish-done, finish-refused, finish-stopped}
 
-enum-told : tie.Need-enum-told
-enum-told c = search needs
+enum-known-got : tie.Need-enum-known-got
+enum-known-got c = search needs
 
 mul-clear : tie.Need-mul-clear
-mul-clear c = omega (arith, c .before .before .before .before .before .before .pre .0)
+mul-clear c = omega (arith, (rw (c .before .before .got .given .1) at (c .before .before .before .before .before .before .pre)) .0)
 
 clear-requires : tie.Need-clear-requires
 clear-requires c κs = search needs
 
 mul-clear-2 : tie.Need-mul-clear-2
-mul-clear-2 c = omega (arith, c .before .before .before .before .before .before .before .before .before .before .pre .1)
+mul-clear-2 c = omega (arith, (rw (c .before .before .before .before .before .before .got .given .1) at (c .before .before .before .before .before .before .before .before .before .before .pre)) .1)
 
 clear-requires-2 : tie.Need-clear-requires-2
 clear-requires-2 c κs = search needs
 
-enum-known-verdict : tie.Need-enum-known-verdict
-enum-known-verdict c = search needs
+enum-known-got-2 : tie.Need-enum-known-got-2
+enum-known-got-2 c = search needs
 
 refuse-requires : tie.Need-refuse-requires
 refuse-requires c κs = search needs
 
-enum-known-verdict-2 : tie.Need-enum-known-verdict-2
-enum-known-verdict-2 c = search needs
+enum-known-got-3 : tie.Need-enum-known-got-3
+enum-known-got-3 c = search needs
 
 refuse-requires-2 : tie.Need-refuse-requires-2
 refuse-requires-2 c κs = search needs
@@ -40,7 +40,7 @@ same-length-2 : tie.Need-same-length-2
 same-length-2 c = search needs
 
 returns : tie.Need-returns
-returns c = finish-done (c .before .before .before .before .before .before .before .before .enum-told .given .1) (c .before .before .before .before .before .before .before .before .before .before .before .before .before .pre) (c .before .before .before .before .before .before .clear .ensures) (c .before .before .clear2 .ensures)
+returns c = finish-done (c .before .before .before .before .before .before .before .before .before .got .given .1) (c .before .before .before .before .before .before .before .before .before .before .before .before .before .pre) (c .before .before .before .before .before .before .clear .ensures) (c .before .before .clear2 .ensures)
 
 same-length-3 : tie.Need-same-length-3
 same-length-3 c = search needs
@@ -49,7 +49,7 @@ same-length-4 : tie.Need-same-length-4
 same-length-4 c = search needs
 
 returns-2 : tie.Need-returns-2
-returns-2 c = finish-refused (c .before .before .before .before .before .before .before .before .verdict .given .1) (c .before .before .before .before .refuse .ensures)
+returns-2 c = finish-refused (c .before .before .before .before .before .before .before .before .got2 .given .1) (c .before .before .before .before .refuse .ensures)
 
 same-length-5 : tie.Need-same-length-5
 same-length-5 c = search needs
@@ -58,20 +58,20 @@ same-length-6 : tie.Need-same-length-6
 same-length-6 c = search needs
 
 returns-3 : tie.Need-returns-3
-returns-3 c = finish-stopped (c .before .before .before .before .before .before .before .before .verdict2 .given .1) (c .before .before .before .before .refuse2 .ensures)
+returns-3 c = finish-stopped (c .before .before .before .before .before .before .before .before .got3 .given .1) (c .before .before .before .before .refuse2 .ensures)
 
 pub finish-spec : {M : Type 1} → statement M
 finish-spec =
     tie.close
     (tie.spec
-    enum-told
+    enum-known-got
     mul-clear
     clear-requires
     mul-clear-2
     clear-requires-2
-    enum-known-verdict
+    enum-known-got-2
     refuse-requires
-    enum-known-verdict-2
+    enum-known-got-3
     refuse-requires-2
     same-length
     same-length-2

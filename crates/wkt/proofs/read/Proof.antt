@@ -8,7 +8,7 @@ use lib.ListN.{length}
 use native.Mathlib.Omega.{arith}
 use borrow.Author.Tests.{ltb-false}
 use Rattle.limits.specs.Limits.{textLimit}
-use Rattle.wkt.proofs.Whole.{read-long, read-ill, read-tokens}
+use Rattle.wkt.proofs.Returns.{read-long, read-ill, read-tokens}
 
 is-over-requires : tie.Need-is-over-requires
 is-over-requires c κs = search needs

@@ -6,7 +6,7 @@ use Rattle.tokenizer.proofs.Cursor.pass_comma.Tie as tie
 use mathlib.Core.Path.{sym, _∙_}
 use denote.Ref.{now}
 use native.Mathlib.Omega.{arith}
-use Rattle.tokenizer.proofs.Commas.{stands-in, pass-here, pass-close, pass-yes, pass-no}
+use Rattle.tokenizer.proofs.Marks.{stands-in, pass-here, pass-close, pass-yes, pass-no}
 
 stands-at-requires : tie.Need-stands-at-requires
 stands-at-requires c κs = search needs

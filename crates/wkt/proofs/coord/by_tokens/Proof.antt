@@ -9,25 +9,38 @@ number-requires : tie.Need-number-requires
 number-requires c κs = c .before .before .before .pre
 
 then-number-requires : tie.Need-then-number-requires
-then-number-requires c κs = ready-x (c .before .before .before .number .ensures) (c .before .before .before .number .kept .1 .0)
+then-number-requires c κs =
+    let x = c .before .before .before .number in
+    ready-x (x .ensures) (x .kept .1 .0) (c .before .before .before .before .before .before .before .pre .short)
 
 has-z-requires : tie.Need-has-z-requires
 has-z-requires c κs = search needs
 
 then-number-requires-2 : tie.Need-then-number-requires-2
-then-number-requires-2 c κs = ready-y (c .before .before .before .before .before .before .before .before .number .ensures) (c .before .before .before .before .before .before .before .before .number .kept .1 .0) (c .before .before .before .before .then-number .ensures) (c .before .before .before .before .then-number .kept .1 .0)
+then-number-requires-2 c κs =
+    let x = c .before .before .before .before .before .before .before .before .number in
+    let y = c .before .before .before .before .then-number in
+    ready-y (x .ensures) (x .kept .1 .0) (y .ensures) (y .kept .1 .0) (c .before .before .before .before .before .before .before .before .before .before .before .before .pre .short)
 
 has-m-requires : tie.Need-has-m-requires
 has-m-requires c κs = search needs
 
 then-number-requires-3 : tie.Need-then-number-requires-3
-then-number-requires-3 c κs = ready-z (c .before .before .before .before .before .before .before .before .before .before .before .before .before .number .ensures) (c .before .before .before .before .before .before .before .before .before .before .before .before .before .number .kept .1 .0) (c .before .before .before .before .before .before .before .before .before .then-number .ensures) (c .before .before .before .before .before .before .before .before .before .then-number .kept .1 .0) (c .before .before .before .before .before .before .before .before .before .before .before .before .before .before .before .before .before .args .dimension) (rw (c .before .before .before .before .before .has-z .ensures) at (c .before .before .before .before .then-number2 .ensures)) (c .before .before .before .before .then-number2 .kept .1 .0)
+then-number-requires-3 c κs =
+    let x = c .before .before .before .before .before .before .before .before .before .before .before .before .before .number in
+    let y = c .before .before .before .before .before .before .before .before .before .then-number in
+    let z = c .before .before .before .before .then-number2 in
+    ready-z (x .ensures) (x .kept .1 .0) (y .ensures) (y .kept .1 .0) (c .before .before .before .before .before .before .before .before .before .before .before .before .before .before .before .before .before .args .dimension) (rw (c .before .before .before .before .before .has-z .ensures) at (z .ensures)) (z .kept .1 .0) (c .before .before .before .before .before .before .before .before .before .before .before .before .before .before .before .before .before .pre .short)
 
 same-length : tie.Need-same-length
 same-length c = search needs
 
 returns : tie.Need-returns
-returns c = coord-is (c .before .before .before .before .before .before .before .before .before .before .before .before .before .before .before .before .number .ensures) (c .before .before .before .before .before .before .before .before .before .before .before .before .before .before .before .before .number .kept .1 .0) (c .before .before .before .before .before .before .before .before .before .before .before .before .then-number .ensures) (c .before .before .before .before .before .before .before .before .before .before .before .before .then-number .kept .1 .0) (c .before .before .before .before .before .before .before .before .before .before .before .before .before .before .before .before .before .before .before .before .args .dimension) (rw (c .before .before .before .before .before .before .before .before .has-z .ensures) at (c .before .before .before .before .before .before .before .then-number2 .ensures)) (c .before .before .before .before .before .before .before .then-number2 .kept .1 .0) (rw (c .before .before .before .has-m .ensures) at (c .before .before .then-number3 .ensures))
+returns c =
+    let x = c .before .before .before .before .before .before .before .before .before .before .before .before .before .before .before .before .number in
+    let y = c .before .before .before .before .before .before .before .before .before .before .before .before .then-number in
+    let z = c .before .before .before .before .before .before .before .then-number2 in
+    coord-is (x .ensures) (x .kept .1 .0) (y .ensures) (y .kept .1 .0) (c .before .before .before .before .before .before .before .before .before .before .before .before .before .before .before .before .before .before .before .before .args .dimension) (rw (c .before .before .before .before .before .before .before .before .has-z .ensures) at (z .ensures)) (z .kept .1 .0) (rw (c .before .before .before .has-m .ensures) at (c .before .before .then-number3 .ensures))
 
 pub by-tokens-spec : {M : Type 1} → statement M
 by-tokens-spec =

@@ -3,31 +3,38 @@
 use borrow.Author.Needs.{needs}
 use Rattle.wkt.proofs.coord.then_number.Statement.{statement}
 use Rattle.wkt.proofs.coord.then_number.Tie as tie
-use mathlib.Core.Path.{sym, _∙_}
-use Rattle.lists.proofs.Cases.{and-both}
-use Rattle.wkt.proofs.Numbers.{on-number, on-prior}
+use Rattle.answers.proofs.Parts.{not-read}
+use Rattle.wkt.proofs.Numbers.{spot-ready, on-number, on-unasked, on-lost}
 
-is-read-requires : tie.Need-is-read-requires
-is-read-requires c κs = search needs
+enum-known-prior : tie.Need-enum-known-prior
+enum-known-prior c = search needs
+
+returns : tie.Need-returns
+returns c = on-lost _ _ _ (not-read (c .before .before .before .args .prior) (c .match .keys2))
+
+state-of-requires : tie.Need-state-of-requires
+state-of-requires c κs = search needs
 
 number-requires : tie.Need-number-requires
-number-requires c κs = c .before .before .before .before .before .before .pre
+number-requires c κs = rw (c .state-of .ensures) (spot-ready (rw (c .before .before .before .before .prior .given .1) at (c .before .before .before .before .before .before .before .before .pre)))
 
 same-length : tie.Need-same-length
 same-length c = search needs
 
-returns : tie.Need-returns
-returns c = let y = and-both _ _ (rw (c .before .before .before .before .before .is-read .ensures) at (c .before .before .before .before .if1 .taken)) in on-number _ (y .0) (y .1) (c .before .before .number .ensures)
-
 returns-2 : tie.Need-returns-2
-returns-2 c = on-prior _ _ (rw (c .before .is-read .ensures) at (c .if1 .left)) (c .before .before .before .before .before .pre .sound)
+returns-2 c = on-number _ (c .before .before .before .before .before .before .before .prior .given .1) (c .before .before .before .before .before .if1 .taken) (rw (c .before .before .before .state-of .ensures) at (c .before .before .number .ensures))
+
+returns-3 : tie.Need-returns-3
+returns-3 c = rw (c .before .before .prior .given .1) (on-unasked _ _ _ (c .if1 .left))
 
 pub then-number-spec : {M : Type 1} → statement M
 then-number-spec =
     tie.close
     (tie.spec
-    is-read-requires
+    enum-known-prior
+    returns
+    state-of-requires
     number-requires
     same-length
-    returns
-    returns-2)
+    returns-2
+    returns-3)

@@ -5,45 +5,76 @@ use Rattle.wkt.proofs.multipoint.points.Statement.{statement}
 use Rattle.wkt.proofs.multipoint.points.Tie as tie
 use mathlib.Core.Path.{_∙_}
 use native.Mathlib.Omega.{arith}
+use Rattle.tokenizer.specs.Tokens.{cursorAt}
 use Rattle.tokenizer.specs.Stream.{size, stream}
-use Rattle.answers.proofs.Lists.{ListInv, list-first, list-fits, list-few, list-last, list-more, list-less}
+use Rattle.answers.proofs.Parts.{not-read}
+use Rattle.answers.proofs.ByCommas.{ListInv, list-first, list-few, list-more, list-less, list-last, list-lost}
 use Rattle.wkt.specs.Parts.{pointOf}
 
 abbrev Inv-loop : tie.InvT-loop
 Inv-loop text nodes₀ numbers₀ row dimension here₀ parts₀ nodes numbers here parts = ListInv text row (pointOf dimension) nodes₀ numbers₀ here₀ nodes numbers parts here
 
 abbrev μ-loop : tie.MeasureT-loop
-μ-loop text nodes₀ numbers₀ row dimension here₀ parts₀ nodes numbers here parts = size (stream text (here .cursor))
+μ-loop text nodes₀ numbers₀ row dimension here₀ parts₀ nodes numbers here parts = size (stream text (cursorAt (here .at)))
 
 loop-holds : tie.Need-loop-holds Inv-loop μ-loop
 loop-holds c = list-first (c .before .before .before .pre .0) (c .before .before .before .pre .1)
 
 point-requires : tie.Need-point-requires Inv-loop μ-loop
-point-requires c κs = list-fits (c .before .before .loop .inv)
+point-requires c κs = c .before .before .loop .inv .fits
+
+enum-known-got : tie.Need-enum-known-got Inv-loop μ-loop
+enum-known-got c = search needs
+
+after-refusal-requires : tie.Need-after-refusal-requires Inv-loop μ-loop
+after-refusal-requires c κs = search needs
+
+same-length : tie.Need-same-length Inv-loop μ-loop
+same-length c = c .before .before .before .before .before .before .point .kept .1 .0 ∙ c .before .before .before .before .before .before .before .before .before .loop .inv .sameN
+
+same-length-2 : tie.Need-same-length-2 Inv-loop μ-loop
+same-length-2 c = c .before .before .before .before .before .before .point .kept .1 .1 .0 ∙ c .before .before .before .before .before .before .before .before .before .loop .inv .sameM
+
+returns : tie.Need-returns Inv-loop μ-loop
+returns c =
+    let v = c .before .before .before .before .before .before .before .before .before .loop .inv in
+    list-lost v (c .before .before .before .before .before .before .point .ensures) (not-read (c .before .before .before .before .before .before .point .result) (c .before .match .keys2)) (c .after-refusal .ensures)
+
+add-parts : tie.Need-add-parts Inv-loop μ-loop
+add-parts c = omega (arith, list-few (c .before .before .before .before .before .before .before .before .before .before .loop .inv))
 
 after-part-requires : tie.Need-after-part-requires Inv-loop μ-loop
 after-part-requires c κs = search needs
 
-add-parts : tie.Need-add-parts Inv-loop μ-loop
-add-parts c = omega (arith, list-few (c .before .before .before .before .before .before .before .before .before .loop .inv))
+moved-requires : tie.Need-moved-requires Inv-loop μ-loop
+moved-requires c κs = search needs
 
 loop-less : tie.Need-loop-less Inv-loop μ-loop
-loop-less c = list-less (c .before .before .before .before .before .before .before .before .before .before .before .loop .inv) (c .before .before .before .before .before .before .before .before .point .ensures) (c .before .before .before .after-part .ensures) (c .before .if1 .taken)
+loop-less c =
+    let v = c .before .before .before .before .before .before .before .before .before .before .before .before .before .before .loop .inv in
+    list-less v (c .before .before .before .before .before .before .before .before .before .before .before .point .ensures) (c .before .before .before .before .before .got .given .1) (c .before .before .before .after-part .ensures) (c .before .if1 .taken) (c .moved .ensures)
 
 loop-again : tie.Need-loop-again Inv-loop μ-loop
-loop-again c = list-more (c .before .before .before .before .before .before .before .before .before .before .before .loop .inv) (c .before .before .before .before .before .before .before .before .point .ensures) (c .before .before .before .after-part .ensures) (c .before .if1 .taken) (c .before .before .before .before .before .before .before .before .point .kept .1 .0) (c .before .before .before .before .before .before .before .before .point .kept .1 .1 .0)
+loop-again c =
+    let v = c .before .before .before .before .before .before .before .before .before .before .before .before .before .before .loop .inv in
+    list-more v (c .before .before .before .before .before .before .before .before .before .before .before .point .ensures) (c .before .before .before .before .before .got .given .1) (c .before .before .before .after-part .ensures) (c .before .if1 .taken) (c .moved .ensures) (c .before .before .before .before .before .before .before .before .before .before .before .point .kept .1 .0) (c .before .before .before .before .before .before .before .before .before .before .before .point .kept .1 .1 .0)
 
-fill-parts-requires : tie.Need-fill-parts-requires Inv-loop μ-loop
-fill-parts-requires c κs = search needs
+at-cursor-requires : tie.Need-at-cursor-requires Inv-loop μ-loop
+at-cursor-requires c κs = search needs
 
-same-length : tie.Need-same-length Inv-loop μ-loop
-same-length c = c .before .before .fill-parts .kept .0 ∙ c .before .before .before .before .before .before .before .before .before .before .before .point .kept .1 .0 ∙ c .before .before .before .before .before .before .before .before .before .before .before .before .before .before .loop .inv .sameN
+closing-requires : tie.Need-closing-requires Inv-loop μ-loop
+closing-requires c κs = search needs
 
-same-length-2 : tie.Need-same-length-2 Inv-loop μ-loop
-same-length-2 c = c .before .before .before .before .before .before .before .before .before .before .before .point .kept .1 .1 .0 ∙ c .before .before .before .before .before .before .before .before .before .before .before .before .before .before .loop .inv .sameM
+same-length-3 : tie.Need-same-length-3 Inv-loop μ-loop
+same-length-3 c = c .before .before .closing .kept .1 .0 ∙ c .before .before .before .before .before .before .before .before .before .before .before .before .before .before .before .point .kept .1 .0 ∙ c .before .before .before .before .before .before .before .before .before .before .before .before .before .before .before .before .before .before .loop .inv .sameN
 
-returns : tie.Need-returns Inv-loop μ-loop
-returns c = list-last (c .before .before .before .before .before .before .before .before .before .before .before .before .before .before .loop .inv) (c .before .before .before .before .before .before .before .before .before .before .before .point .ensures) (c .before .before .before .before .before .before .after-part .ensures) (c .before .before .before .before .if1 .left) (c .before .before .before .before .before .before .before .before .before .before .before .point .kept .1 .0) (c .before .before .fill-parts .ensures)
+same-length-4 : tie.Need-same-length-4 Inv-loop μ-loop
+same-length-4 c = c .before .before .before .before .before .before .before .before .before .before .before .before .before .before .before .point .kept .1 .1 .0 ∙ c .before .before .before .before .before .before .before .before .before .before .before .before .before .before .before .before .before .before .loop .inv .sameM
+
+returns-2 : tie.Need-returns-2 Inv-loop μ-loop
+returns-2 c =
+    let v = c .before .before .before .before .before .before .before .before .before .before .before .before .before .before .before .before .before .before .loop .inv in
+    list-last v (c .before .before .before .before .before .before .before .before .before .before .before .before .before .before .before .point .ensures) (c .before .before .before .before .before .before .before .before .before .got .given .1) (c .before .before .before .before .before .before .before .after-part .ensures) (c .before .before .before .before .before .if1 .left) (c .before .before .before .at-cursor .ensures) (c .before .before .closing .ensures .0) (c .before .before .closing .ensures .1) (c .before .before .before .before .before .before .before .before .before .before .before .before .before .before .before .point .kept .1 .0)
 
 pub points-spec : {M : Type 1} → statement M
 points-spec =
@@ -53,11 +84,18 @@ points-spec =
     μ-loop
     loop-holds
     point-requires
-    after-part-requires
-    add-parts
-    loop-less
-    loop-again
-    fill-parts-requires
+    enum-known-got
+    after-refusal-requires
     same-length
     same-length-2
-    returns)
+    returns
+    add-parts
+    after-part-requires
+    moved-requires
+    loop-less
+    loop-again
+    at-cursor-requires
+    closing-requires
+    same-length-3
+    same-length-4
+    returns-2)

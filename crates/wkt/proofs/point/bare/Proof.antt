@@ -3,51 +3,92 @@
 use borrow.Author.Needs.{needs}
 use Rattle.wkt.proofs.point.bare.Statement.{statement}
 use Rattle.wkt.proofs.point.bare.Tie as tie
-use mathlib.Core.Path.{sym, _∙_}
-use Rattle.wkt.proofs.Bodies.{bare-ready, bare-within, bare-full, bare-done, point-body}
+use Rattle.answers.proofs.Parts.{not-read}
+use Rattle.wkt.proofs.Bodies.{never-refused, bare-full, bare-ready, bare-read, bare-lost}
 
-node-requires : tie.Need-node-requires
-node-requires c κs = search needs
+spot-of-requires : tie.Need-spot-of-requires
+spot-of-requires c κs = search needs
 
-is-stopped-requires : tie.Need-is-stopped-requires
-is-stopped-requires c κs = search needs
+open-node-requires : tie.Need-open-node-requires
+open-node-requires c κs = search needs
+
+enum-known-begun : tie.Need-enum-known-begun
+enum-known-begun c = search needs
+
+at-cursor-requires : tie.Need-at-cursor-requires
+at-cursor-requires c κs = search needs
+
+by-tokens-requires : tie.Need-by-tokens-requires
+by-tokens-requires c κs = bare-ready _ _ _ _ _ _ (c .before .before .before .before .before .before .before .before .spot-of .ensures) (c .before .before .before .before .before .before .before .open-node .ensures .0) (c .before .before .before .begun .given .1) (c .at-cursor .ensures) (c .before .before .before .before .before .before .before .before .before .before .before .before .before .before .pre)
+
+enum-known-got : tie.Need-enum-known-got
+enum-known-got c = search needs
+
+ended-requires : tie.Need-ended-requires
+ended-requires c κs = search needs
+
+enum-known-begun-2 : tie.Need-enum-known-begun-2
+enum-known-begun-2 c = search needs
+
+enum-known-begun-3 : tie.Need-enum-known-begun-3
+enum-known-begun-3 c = search needs
 
 same-length : tie.Need-same-length
 same-length c = search needs
 
-returns : tie.Need-returns
-returns c = bare-full _ (c .before .before .before .before .before .node .ensures .0) _ (c .before .before .before .before .before .before .before .before .before .before .pre .room) (sym (c .before .is-stopped .ensures) ∙ c .if1 .taken)
-
-by-tokens-requires : tie.Need-by-tokens-requires
-by-tokens-requires c κs = bare-ready _ _ _ (c .before .before .before .before .before .before .node .ensures .0) (sym (c .before .before .is-stopped .ensures) ∙ c .before .if1 .left) (c .before .before .before .before .before .before .before .before .before .before .before .pre)
-
-fill-parts-requires : tie.Need-fill-parts-requires
-fill-parts-requires c κs = search needs
-
 same-length-2 : tie.Need-same-length-2
 same-length-2 c = search needs
+
+returns : tie.Need-returns
+returns c =
+    let row = c .before .before .before .before .before .before .before .before .before .before .before .before .before .before .before .before .before .open-node .ensures in
+    let end = c .before .before .ended .ensures in
+    bare-read _ _ _ _ _ _ (c .before .before .before .before .before .before .before .before .before .before .before .before .before .before .before .before .before .before .spot-of .ensures) (row .0) (c .before .before .before .before .before .before .before .before .before .before .before .before .before .begun .given .1) (c .before .before .before .before .before .before .before .before .before .before .at-cursor .ensures) _ (row .1) (c .before .before .before .before .before .before .before .before .before .by-tokens .ensures) (c .before .before .before .before .before .got .given .1) (end .0) (end .1)
 
 same-length-3 : tie.Need-same-length-3
 same-length-3 c = search needs
 
+same-length-4 : tie.Need-same-length-4
+same-length-4 c = search needs
+
 returns-2 : tie.Need-returns-2
 returns-2 c =
-    let n = sym (c .before .before .before .before .before .before .before .before .before .is-stopped .ensures) ∙ c .before .before .before .before .before .before .before .before .if1 .left in
-    let e = c .before .before .before .before .before .before .before .before .before .before .before .before .before .node .ensures in
-    let l = c .before .before .before .before .before .before .before .before .before .before .before .before .before .node .kept .0 in
-    let w = bare-within _ _ _ (e .0) n _ _ (e .1) in
-    bare-done _ (e .0) _ n (e .1) l (point-body (c .before .before .before .before .before .before .by-tokens .ensures) (w .1) _ (w .0) (c .before .before .fill-parts .ensures))
+    let row = c .before .before .before .before .before .before .before .before .before .before .before .open-node .ensures in
+    let got = c .before .before .before .by-tokens in
+    bare-lost _ _ _ _ _ _ (c .before .before .before .before .before .before .before .before .before .before .before .before .spot-of .ensures) (row .0) (c .before .before .before .before .before .before .before .begun .given .1) (c .before .before .before .before .at-cursor .ensures) _ (row .1) (got .ensures) (not-read (got .result) (c .match2 .keys2))
+
+same-length-5 : tie.Need-same-length-5
+same-length-5 c = search needs
+
+returns-3 : tie.Need-returns-3
+returns-3 c = absurd (never-refused _ _ _ (c .before .before .before .before .before .open-node .ensures .0) (c .before .begun2 .given .1))
+
+same-length-6 : tie.Need-same-length-6
+same-length-6 c = search needs
+
+returns-4 : tie.Need-returns-4
+returns-4 c = bare-full _ _ _ _ _ _ (c .before .before .before .before .before .before .spot-of .ensures) (c .before .before .before .before .before .open-node .ensures .0) _ (c .before .begun3 .given .1)
 
 pub bare-spec : {M : Type 1} → statement M
 bare-spec =
     tie.close
     (tie.spec
-    node-requires
-    is-stopped-requires
-    same-length
-    returns
+    spot-of-requires
+    open-node-requires
+    enum-known-begun
+    at-cursor-requires
     by-tokens-requires
-    fill-parts-requires
+    enum-known-got
+    ended-requires
+    enum-known-begun-2
+    enum-known-begun-3
+    same-length
     same-length-2
+    returns
     same-length-3
-    returns-2)
+    same-length-4
+    returns-2
+    same-length-5
+    returns-3
+    same-length-6
+    returns-4)

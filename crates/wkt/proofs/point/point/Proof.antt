@@ -3,18 +3,25 @@
 use borrow.Author.Needs.{needs}
 use Rattle.wkt.proofs.point.point.Statement.{statement}
 use Rattle.wkt.proofs.point.point.Tie as tie
-use Rattle.tokenizer.proofs.Sound.{new-sound}
-use Rattle.answers.proofs.Parts.{room-on}
-use Rattle.wkt.proofs.Bodies.{head-fits, point-open, point-bare}
+use Rattle.wkt.proofs.Bodies.{head-fits, point-open, point-held, point-bare}
 
-look-requires : tie.Need-look-requires
-look-requires c κs = search needs
+new-requires : tie.Need-new-requires
+new-requires c κs = search needs
 
-behind-requires : tie.Need-behind-requires
-behind-requires c κs = search needs
+pass-open-requires : tie.Need-pass-open-requires
+pass-open-requires c κs = search needs
+
+moved-requires : tie.Need-moved-requires
+moved-requires c κs = search needs
 
 in-parens-requires : tie.Need-in-parens-requires
-in-parens-requires c κs = head-fits (c .before .before .before .before .before .before .before .before .before .before .before .pre .room) (c .before .before .behind .ensures)
+in-parens-requires c κs = head-fits (c .before .before .before .before .before .before .before .before .before .before .pre) (c .moved .ensures)
+
+at-cursor-requires : tie.Need-at-cursor-requires
+at-cursor-requires c κs = search needs
+
+bare-requires : tie.Need-bare-requires
+bare-requires c κs = point-held (rw (c .before .before .before .before .before .before .new .ensures) at (c .before .before .before .before .before .pass-open .ensures)) (c .before .before .before .if1 .left) (c .at-cursor .ensures) (c .before .before .before .before .before .before .before .before .before .before .pre)
 
 same-length : tie.Need-same-length
 same-length c = search needs
@@ -23,10 +30,7 @@ same-length-2 : tie.Need-same-length-2
 same-length-2 c = search needs
 
 returns : tie.Need-returns
-returns c = point-open _ (c .before .before .before .before .before .before .before .before .before .before .before .look .ensures) (c .before .before .before .before .before .before .before .before .if1 .taken) (c .before .before .before .before .before .before .before .behind .ensures) (c .before .before .before .before .in-parens .ensures)
-
-bare-requires : tie.Need-bare-requires
-bare-requires c κs = record { room = room-on _ (c .before .before .before .before .before .before .before .before .before .before .pre .room); sound = c .before .before .before .before .before .look .ensures .sound (rw (c .before .before .before .before .before .before .before .before .before .before .pre .free) (new-sound _ _)) }
+returns c = point-open (rw (c .before .before .before .before .before .before .before .before .before .before .before .new .ensures) at (c .before .before .before .before .before .before .before .before .before .before .pass-open .ensures)) _ (c .before .before .before .before .before .before .before .before .if1 .taken) (c .before .before .before .before .before .moved .ensures) (c .before .before .before .before .in-parens .ensures)
 
 same-length-3 : tie.Need-same-length-3
 same-length-3 c = search needs
@@ -35,19 +39,21 @@ same-length-4 : tie.Need-same-length-4
 same-length-4 c = search needs
 
 returns-2 : tie.Need-returns-2
-returns-2 c = point-bare _ (c .before .before .before .before .before .before .before .before .before .before .look .ensures) (c .before .before .before .before .before .before .before .if1 .left) (c .before .before .before .before .bare .ensures)
+returns-2 c = point-bare (rw (c .before .before .before .before .before .before .before .before .before .before .before .new .ensures) at (c .before .before .before .before .before .before .before .before .before .before .pass-open .ensures)) (c .before .before .before .before .before .before .before .before .if1 .left) (c .before .before .before .before .before .at-cursor .ensures) _ (c .before .before .before .before .bare .ensures)
 
 pub point-spec : {M : Type 1} → statement M
 point-spec =
     tie.close
     (tie.spec
-    look-requires
-    behind-requires
+    new-requires
+    pass-open-requires
+    moved-requires
     in-parens-requires
+    at-cursor-requires
+    bare-requires
     same-length
     same-length-2
     returns
-    bare-requires
     same-length-3
     same-length-4
     returns-2)

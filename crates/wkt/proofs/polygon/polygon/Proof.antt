@@ -10,26 +10,26 @@ use Rattle.wkt.proofs.Bodies.{as-polygon, child-opens, child-empty, chi
 opener-requires : tie.Need-opener-requires
 opener-requires c κs = search needs
 
-enum-known-head : tie.Need-enum-known-head
-enum-known-head c = search needs
+enum-known-d : tie.Need-enum-known-d
+enum-known-d c = search needs
 
-behind-requires : tie.Need-behind-requires
-behind-requires c κs = search needs
+moved-requires : tie.Need-moved-requires
+moved-requires c κs = search needs
 
 in-parens-requires : tie.Need-in-parens-requires
-in-parens-requires c κs = head-fits (c .before .before .before .before .before .before .before .before .before .before .before .pre .room) (c .behind .ensures)
+in-parens-requires c κs = head-fits (c .before .before .before .before .before .before .before .before .before .before .pre) (c .moved .ensures)
 
-enum-known-head-2 : tie.Need-enum-known-head-2
-enum-known-head-2 c = search needs
+enum-known-k : tie.Need-enum-known-k
+enum-known-k c = search needs
 
-behind-requires-2 : tie.Need-behind-requires-2
-behind-requires-2 c κs = search needs
+moved-requires-2 : tie.Need-moved-requires-2
+moved-requires-2 c κs = search needs
 
-node-requires : tie.Need-node-requires
-node-requires c κs = search needs
+open-node-requires : tie.Need-open-node-requires
+open-node-requires c κs = search needs
 
-enum-known-head-3 : tie.Need-enum-known-head-3
-enum-known-head-3 c = search needs
+enum-known-r : tie.Need-enum-known-r
+enum-known-r c = search needs
 
 same-length : tie.Need-same-length
 same-length c = search needs
@@ -38,29 +38,31 @@ same-length-2 : tie.Need-same-length-2
 same-length-2 c = search needs
 
 returns : tie.Need-returns
-returns c = as-polygon _ (child-opens _ _ (λ N M. spec.polygonIn N M enough) (c .before .before .before .before .before .before .before .before .before .before .before .opener .ensures) (c .before .before .before .before .before .before .before .before .before .head .given .1) (c .before .before .before .before .before .behind .ensures) (c .before .before .before .before .in-parens .ensures))
+returns c = as-polygon _ (child-opens _ _ (λ N M. spec.polygonIn N M enough) (c .before .before .before .before .before .before .before .before .before .before .before .opener .ensures) (c .before .before .before .before .before .before .before .before .before .d .given .1) (c .before .before .before .before .before .moved .ensures) (c .before .before .before .before .in-parens .ensures))
 
 same-length-3 : tie.Need-same-length-3
 same-length-3 c = search needs
 
 returns-2 : tie.Need-returns-2
-returns-2 c = as-polygon _ (child-empty _ _ (λ N M. spec.polygonIn N M enough) (c .before .before .before .before .before .before .before .before .opener .ensures) (c .before .before .before .before .before .before .before .before .before .before .before .before .before .pre .room) (c .before .before .before .before .before .before .head2 .given .1) (c .before .before .before .behind2 .ensures) (c .before .before .node .ensures .0) (c .before .before .node .ensures .1))
+returns-2 c =
+    let row = c .before .before .open-node .ensures in
+    as-polygon _ (child-empty _ _ (λ N M. spec.polygonIn N M enough) (c .before .before .before .before .before .before .before .before .opener .ensures) (c .before .before .before .before .before .before .before .before .before .before .before .before .pre) (c .before .before .before .before .before .before .k .given .1) (c .before .before .before .moved2 .ensures) (row .0) (row .1))
 
 returns-3 : tie.Need-returns-3
-returns-3 c = as-polygon _ (child-wrong _ _ (λ N M. spec.polygonIn N M enough) (c .before .before .before .opener .ensures) (c .before .before .before .before .before .before .before .before .pre .room) (c .before .head3 .given .1))
+returns-3 c = as-polygon _ (child-wrong _ _ (λ N M. spec.polygonIn N M enough) (c .before .before .before .opener .ensures) (c .before .r .given .1))
 
 pub polygon-spec : {M : Type 1} → statement M
 polygon-spec =
     tie.close
     (tie.spec
     opener-requires
-    enum-known-head
-    behind-requires
+    enum-known-d
+    moved-requires
     in-parens-requires
-    enum-known-head-2
-    behind-requires-2
-    node-requires
-    enum-known-head-3
+    enum-known-k
+    moved-requires-2
+    open-node-requires
+    enum-known-r
     same-length
     same-length-2
     returns
