@@ -72,6 +72,15 @@ pub const NO_ROOM: u32 = 23;
 /// `The part that names the type is not ASCII`
 pub const NON_ASCII: u32 = 24;
 
+/// `A field is cut, missing, left over, or has another tag or length than the stored form`
+pub const FAULTY_FIELD: u32 = 25;
+
+/// `The stored bytes are of another version`
+pub const UNKNOWN_VERSION: u32 = 26;
+
+/// `A count, a number's text or the whole is too large for the stored form`
+pub const DOES_NOT_FIT: u32 = 27;
+
 pub(crate) fn message(number: u32) -> &'static str {
     match number {
         TEXT_TOO_LONG => "The text has more than 65,535 bytes",
@@ -98,6 +107,9 @@ pub(crate) fn message(number: u32) -> &'static str {
         ILL_FORMED_STORE => "The rows are not a well-formed store",
         NO_ROOM => "The canonical text is longer than the room",
         NON_ASCII => "The part that names the type is not ASCII",
+        FAULTY_FIELD => "A field is cut, missing, left over, or has another tag or length than the stored form",
+        UNKNOWN_VERSION => "The stored bytes are of another version",
+        DOES_NOT_FIT => "A count, a number's text or the whole is too large for the stored form",
         _ => "Unknown refusal",
     }
 }

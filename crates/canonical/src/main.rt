@@ -14,7 +14,7 @@ use console::read_input;
 use printing::flush;
 use printing::least;
 use printing::put;
-use wkt::ReadAnswer;
+use store::ReadAnswer;
 
 // A canonical text has at most one byte more than its text for each number, `+`, and two for each node: the
 // parentheses of a bare point, or a blank before the dimension.

@@ -16,12 +16,12 @@ use Rattle.grammar.specs.Grammar.{out, Got, ok, refused, halt}
 use Rattle.grammar.specs.Reading.{reading}
 use Rattle.grammar.proofs.WellRead.{reading-well-formed}
 use Rattle.grammar.proofs.Fuel.{reading-refusals, reading-halts, reading-kept}
-use Rattle.wkt.specs.declared.ReadAnswer.{ReadAnswer}
+use Rattle.store.specs.declared.ReadAnswer.{ReadAnswer}
 use Rattle.wkt.specs.Leaves.{Leaves}
 use Rattle.shape.specs.Store.{allRows, allSpans, allTexts, wellFormed, treeOf}
 use Rattle.shape.proofs.Stores.{tree-of, is-well-formed}
 use Rattle.shape.proofs.Slices.{flat-rows, flat-spans, flat-whole, used-rows, used-spans}
-use Rattle.to_wkt.specs.declared.WriteAnswer.{WriteAnswer}
+use Rattle.store.specs.declared.WriteAnswer.{WriteAnswer}
 use Rattle.to_wkt.specs.Canonical.{storeText}
 use Rattle.to_wkt.specs.Write.{accepted, answerOf, roomAfter, Written}
 use Rattle.demands.specs.Calls.{Read, usedNodes, usedNumbers}

@@ -33,7 +33,7 @@ use Rattle.grammar.specs.Grammar.{Out, out, Got, ok, refused, halt, refusal, ro
 use Rattle.grammar.specs.Reading.{enough, reading}
 use Rattle.grammar.proofs.After.{accepted}
 use Rattle.grammar.proofs.Fuel.{reading-refusals, reading-halts, reading-kept}
-use Rattle.wkt.specs.declared.ReadAnswer.{ReadAnswer}
+use Rattle.store.specs.declared.ReadAnswer.{ReadAnswer}
 use Rattle.wkt.specs.Leaves as read
 use Rattle.wkt.specs.Leaves.{Leaves, leaves-one}
 use Rattle.shape.specs.declared.Visit.{Visit}
@@ -52,7 +52,7 @@ use Rattle.strict.specs.Strict.{ofWalk, strictOf}
 use Rattle.strict.specs.Outcome as outcome
 use Rattle.strict.specs.Outcome.{Outcome}
 use Rattle.strict.proofs.Outcome.{first-fault}
-use Rattle.to_wkt.specs.declared.WriteAnswer.{WriteAnswer}
+use Rattle.store.specs.declared.WriteAnswer.{WriteAnswer}
 use Rattle.to_wkt.specs.Canonical.{storeText, theText, writtenText}
 use Rattle.to_wkt.specs.Write as write
 use Rattle.to_wkt.specs.Write.{answerOf, roomAfter}

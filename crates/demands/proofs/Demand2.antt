@@ -25,7 +25,7 @@ use Rattle.grammar.specs.Reading.{reading, treeRead}
 use Rattle.tree.proofs.TreeIn.{trees-own}
 use Rattle.grammar.proofs.WellRead.{reading-well-formed}
 use Rattle.grammar.proofs.Fuel.{reading-kept}
-use Rattle.wkt.specs.declared.ReadAnswer.{ReadAnswer}
+use Rattle.store.specs.declared.ReadAnswer.{ReadAnswer}
 use Rattle.wkt.specs.Leaves.{Leaves, leaves-one, answerOf, rowsOf, spansOf, rootIn}
 use Rattle.shape.specs.Store.{mapO, treeOf}
 use Rattle.to_wkt.specs.Canonical.{storeText}

@@ -27,14 +27,14 @@ use Rattle.grammar.specs.Asks.{bind, run, answerIn}
 use Rattle.grammar.specs.Grammar.{out, Got, ok, refused, halt, refusal, rootHead, geometryBy, geometry, root}
 use Rattle.grammar.specs.Reading.{enough, reading, treeRead}
 use Rattle.grammar.proofs.Canon.{read-back}
-use Rattle.wkt.specs.declared.ReadAnswer.{ReadAnswer}
+use Rattle.store.specs.declared.ReadAnswer.{ReadAnswer}
 use Rattle.shape.specs.Numbers.{areNumbers}
 use Rattle.shape.specs.Store.{allTexts, areWhole, treeOf, wellFormed}
 use Rattle.shape.proofs.Stores.{grown, store-tree}
 use Rattle.shape.proofs.Slices.{front-of, same-store}
 use Rattle.form.specs.Form.{RoomFor, Filled, Lawful}
 use Rattle.form.proofs.Form.{one-tree, trees-equal, trees-again, tree-back, one-tree-one-writing}
-use Rattle.to_wkt.specs.declared.WriteAnswer.{WriteAnswer}
+use Rattle.store.specs.declared.WriteAnswer.{WriteAnswer}
 use Rattle.to_wkt.specs.Canonical.{storeText, theText, writtenText}
 use Rattle.to_wkt.specs.Write.{accepted, answerOf}
 use Rattle.to_wkt.specs.Write as write

@@ -10,7 +10,7 @@ use Rattle.store.specs.Rows.{nodeWidth, numberWidth, nodeRoom, numberRoom}
 use Rattle.infer_type.specs.declared.Inferred.{Inferred}
 use Rattle.infer_type.specs.Infer.{inferType}
 use Rattle.grammar.specs.Reading.{reading}
-use Rattle.wkt.specs.declared.ReadAnswer.{ReadAnswer}
+use Rattle.store.specs.declared.ReadAnswer.{ReadAnswer}
 use Rattle.wkt.specs.Leaves.{Leaves}
 use Rattle.strict.specs.declared.StrictAnswer.{StrictAnswer}
 use Rattle.strict.specs.Strict.{strictOf}

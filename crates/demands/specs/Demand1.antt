@@ -19,7 +19,7 @@ use Rattle.infer_type.specs.Infer as infer
 use Rattle.infer_type.specs.Answers.{Answer}
 use Rattle.grammar.specs.Answers.{isRefusal, isHalt}
 use Rattle.grammar.specs.Grammar.{out}
-use Rattle.wkt.specs.declared.ReadAnswer.{ReadAnswer}
+use Rattle.store.specs.declared.ReadAnswer.{ReadAnswer}
 use Rattle.lists.specs.Lists.{All}
 use Rattle.shape.specs.declared.Visit.{Visit}
 use Rattle.shape.specs.declared.Met.{Met}
@@ -30,7 +30,7 @@ use Rattle.strict.specs.declared.StrictAnswer.{StrictAnswer}
 use Rattle.strict.specs.Rules.{noLetter}
 use Rattle.strict.specs.Strict.{answer}
 use Rattle.strict.specs.Outcome.{RulesHoldAt, Lowest}
-use Rattle.to_wkt.specs.declared.WriteAnswer.{WriteAnswer}
+use Rattle.store.specs.declared.WriteAnswer.{WriteAnswer}
 use Rattle.to_wkt.specs.Canonical.{writtenText}
 use Rattle.to_wkt.specs.Write.{accepted, refused, Written}
 use Rattle.demands.specs.Calls.{Read, usedNodes, usedNumbers, Checked, Inferring, Taken, LookedAt}

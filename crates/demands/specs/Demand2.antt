@@ -13,9 +13,9 @@ use Rattle.lists.specs.Lists.{All}
 use Rattle.grammar.specs.Answers.{Passes}
 use Rattle.grammar.specs.Edges.{Edge, reads, writes, edges}
 use Rattle.tree.specs.Tree.{Tree, Shape, rows, texts}
-use Rattle.wkt.specs.declared.ReadAnswer.{ReadAnswer}
+use Rattle.store.specs.declared.ReadAnswer.{ReadAnswer}
 use Rattle.wkt.specs.Leaves.{Leaves, rootIn}
-use Rattle.to_wkt.specs.declared.WriteAnswer.{WriteAnswer}
+use Rattle.store.specs.declared.WriteAnswer.{WriteAnswer}
 use Rattle.to_wkt.specs.Write.{accepted, Written}
 use Rattle.shape.specs.Store.{allTexts}
 use Rattle.demands.specs.Calls.{Read, usedNodes, usedNumbers}

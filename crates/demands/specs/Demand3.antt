@@ -11,10 +11,10 @@ use Rattle.store.specs.Rows.{nodeRoom, numberRoom, zeros}
 use Rattle.tree.specs.Tree.{Tree, GoodTree}
 use Rattle.canonical_text.specs.Canonical.{canonicalText}
 use Rattle.grammar.specs.Reading.{reading, treeRead}
-use Rattle.wkt.specs.declared.ReadAnswer.{ReadAnswer}
+use Rattle.store.specs.declared.ReadAnswer.{ReadAnswer}
 use Rattle.shape.specs.Store.{allTexts, wellFormed}
 use Rattle.form.specs.Form.{Form, TreesEqual, TreesAgain, Entries, Back, OneTreeOneWriting}
-use Rattle.to_wkt.specs.declared.WriteAnswer.{WriteAnswer}
+use Rattle.store.specs.declared.WriteAnswer.{WriteAnswer}
 use Rattle.to_wkt.specs.Canonical.{writtenText}
 use Rattle.to_wkt.specs.Write.{accepted, Written}
 use Rattle.demands.specs.Calls.{Read, usedNodes, usedNumbers}

@@ -9,7 +9,7 @@ use Rattle.tokenizer.specs.Stream.{tok, close-tk}
 use Rattle.store.specs.Rows.{nodeRoom, numberRoom, partsAt}
 use Rattle.grammar.specs.Answers.{Passes}
 use Rattle.grammar.specs.LastToken.{lastToken}
-use Rattle.wkt.specs.declared.ReadAnswer.{ReadAnswer}
+use Rattle.store.specs.declared.ReadAnswer.{ReadAnswer}
 use Rattle.demands.specs.Calls.{Read, usedNodes, usedNumbers}
 
 -- the text is xs, the `)` that is the last token taken, and ys, which is unread. With other bytes there, and with other slices of the same rooms (slices of

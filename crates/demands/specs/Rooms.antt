@@ -5,7 +5,7 @@ use Prim.Native.Nat.{ℕ, _≤_}
 use lib.ListN.{length}
 use Rattle.rooms.specs.Rooms.{enoughRows}
 use Rattle.store.specs.Rows.{nodeRoom, numberRoom}
-use Rattle.wkt.specs.declared.ReadAnswer.{ReadAnswer}
+use Rattle.store.specs.declared.ReadAnswer.{ReadAnswer}
 use Rattle.demands.specs.Calls.{Read}
 
 abbrev pub EnoughNodes : Type 0

@@ -26,7 +26,7 @@ use printing::flush;
 use printing::least;
 use printing::put;
 use refusals::TEXT_TOO_LONG;
-use wkt::ReadAnswer;
+use store::ReadAnswer;
 
 const OUTPUT_BYTES: usize = 4_096;
 

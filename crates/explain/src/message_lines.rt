@@ -1,6 +1,6 @@
 // The messages of the refusals, made by tools/refusals from crates/refusals/table.txt: the line at a
 // refusal's number is its message, from 0 on.
-pub(crate) const MESSAGE_LINES: [u8; 856] = *b"No refusal\n\
+pub(crate) const MESSAGE_LINES: [u8; 1053] = *b"No refusal\n\
     The text has more than 65,535 bytes\n\
     The text is not well-formed UTF-8\n\
     No room for another node\n\
@@ -24,4 +24,7 @@ pub(crate) const MESSAGE_LINES: [u8; 856] = *b"No refusal\n\
     Invalid WKT; no '(' character and not EMPTY\n\
     The rows are not a well-formed store\n\
     The canonical text is longer than the room\n\
-    The part that names the type is not ASCII\n";
+    The part that names the type is not ASCII\n\
+    A field is cut, missing, left over, or has another tag or length than the stored form\n\
+    The stored bytes are of another version\n\
+    A count, a number's text or the whole is too large for the stored form\n";

@@ -1,10 +1,13 @@
 -- Number texts (document 01, "Tokens"): "the rest must be a lexeme: optional sign, then `inf`, `infinity`, `nan` or a decimal,
 -- ASCII case ignored. A decimal has at least one digit, at most one point, then optionally `e`, optional sign, at least one digit."
 -- `Grammar` says the same as a grammar, and is proved equal.
-use Prim.Native.Nat.{ℕ}
-use mathlib.Core.Bool.{Bool, not, _||_, _&&_}
+use mathlib.Core.Path.{_≡_}
+use Prim.Native.Nat.{ℕ, _+_, _-_, _≤_, _<_}
+use mathlib.Core.Bool.{Bool, true, not, _||_, _&&_}
 use mathlib.Core.List.{List}
 use lib.Dec.{eqb}
+use lib.ListN.{length, take, drop}
+use Rattle.lists.specs.Lists.{every}
 use Rattle.scan.specs.Text.{bytes}
 use Rattle.scan.specs.Bytes.{isInner, isDigit, isSign, isPoint}
 use Rattle.scan.specs.Front.{rest, part, begins, afterOne, afterAll, isNil}
@@ -60,6 +63,16 @@ isUnsigned l = isNamed l || isDecimal isNil l
 -- "optional sign, then `inf`, `infinity`, `nan` or a decimal"
 unfoldable pub isLexeme : List ℕ → Bool
 isLexeme l = isUnsigned (afterOne isSign l)
+
+-- the same of a lexeme that has no exponent and is no word: "optional sign", and a decimal that ends after its digits
+unfoldable pub isPlain : List ℕ → Bool
+isPlain l = hasDigit (afterOne isSign l) && isNil (afterAll isDigit (afterWhole (afterOne isSign l)))
+
+-- the bytes after the one at `at`, up to and with the one at `last`, are digits
+pub record DigitsAfter (w : List ℕ) (at last : ℕ) : Type 0 where
+  pub from : at ≤ last
+  pub inside : last < length w
+  pub digits : every isDigit (take (last - at) (drop (at + 1) w)) ≡ true
 
 -- whether the text from i up to the next stop passes the test, and where that stop is
 abbrev pub upToStop : (List ℕ → Bool) → List ℕ → ℕ → Lexeme

@@ -1,8 +1,11 @@
 // Bytes put one after the other into a lent slice, while there is room.
 ghost use mathlib.Core.Path.{_≡_};
 ghost use mathlib.Core.List.{[], _∷_};
+ghost use lib.ListN.{length};
 ghost use Rattle.store.specs.Rows.{cleared};
+ghost use Rattle.store.specs.Answers.{refusal, Writes};
 ghost use Rattle.pen.specs.Pen.{Puts};
+use store::WriteAnswer;
 
 // How many bytes stand, and whether a piece had no room. A full pen puts nothing more.
 pub struct Pen {
@@ -94,5 +97,17 @@ pub fn clear(out: &mut [u8], from: usize)
     while i < out.len() {
         out[i] = 0;
         i += 1;
+    }
+}
+
+// A writer refuses: its room is zeroed.
+pub fn refuse(out: &mut [u8], number: u32) -> WriteAnswer
+    ensures { λ r. ⌜ Writes (refusal number) (length (now (out .entry))) r (now (out .exit)) ⌝ }
+{
+    clear(out, 0);
+    WriteAnswer {
+        number,
+        place: 0,
+        length: 0,
     }
 }

@@ -96,3 +96,15 @@ noRoom = 23
 -- "infer_type: non-ASCII byte in the part looked at"
 abbrev pub nonAscii : ℕ
 nonAscii = 24
+
+-- "a field cut, missing, extra or of wrong tag or length, at its tag"
+abbrev pub faultyField : ℕ
+faultyField = 25
+
+-- "at byte 3 if the first byte is 1 and byte 3 exists and is no known version"
+abbrev pub unknownVersion : ℕ
+unknownVersion = 26
+
+-- "a count, a text or the whole doesn't fit the form"
+abbrev pub doesNotFit : ℕ
+doesNotFit = 27

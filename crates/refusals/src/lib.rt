@@ -47,3 +47,9 @@ pub const ILL_FORMED_STORE: u32 = 22;
 pub const NO_ROOM: u32 = 23;
 
 pub const NON_ASCII: u32 = 24;
+
+pub const FAULTY_FIELD: u32 = 25;
+
+pub const UNKNOWN_VERSION: u32 = 26;
+
+pub const DOES_NOT_FIT: u32 = 27;

@@ -10,7 +10,7 @@ use crate::records::SECOND_FIELD;
 use crate::records::TEXT_AFTER_TWO;
 use printing::least;
 use printing::put_spaced;
-use wkt::ReadAnswer;
+use store::ReadAnswer;
 ghost use Prim.Native.Nat.{_≤_};
 
 fn one_unless_zero(place: u32) -> usize

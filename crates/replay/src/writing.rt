@@ -12,7 +12,7 @@ use crate::records::text_of;
 use crate::rows::load;
 use printing::least;
 use printing::put;
-use to_wkt::WriteAnswer;
+use store::WriteAnswer;
 ghost use Prim.Native.Nat.{_≤_};
 
 const DIGITS: [u8; 16] = *b"0123456789abcdef";

@@ -8,7 +8,7 @@ use native.Mathlib.Numerals.{add-one}
 use lib.ListN.{length, take, drop}
 use Rattle.scan.specs.Text.{bytes}
 use Rattle.store.specs.Rows.{nodeWidth, nodeColumn, spanStartAt, spanLengthAt}
-use Rattle.wkt.specs.declared.ReadAnswer.{ReadAnswer}
+use Rattle.store.specs.declared.ReadAnswer.{ReadAnswer}
 use Rattle.printing.specs.Printing.{Buffer, putIn, putAllIn, spaced}
 use Rattle.printing.proofs.Buffers.{put-then}
 use Rattle.console.specs.Console.{newline}

@@ -5,7 +5,7 @@ use Prim.Native.Nat.{ℕ, _-_}
 use lib.ListN.{replicate}
 use Rattle.scan.specs.Text.{bytes}
 use Rattle.store.specs.Rows.{cell}
-use Rattle.wkt.specs.declared.ReadAnswer.{ReadAnswer}
+use Rattle.store.specs.declared.ReadAnswer.{ReadAnswer}
 use Rattle.printing.specs.Printing.{Buffer, buffer, hasRoomAt, putIn, putAllIn, placesFrom, decimal}
 use Rattle.row_lines.specs.Lines.{keptText, linesOf, answerLine, listingLines}
 

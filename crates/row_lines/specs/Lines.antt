@@ -9,7 +9,7 @@ use lib.ListN.{length, take, drop}
 use Rattle.scan.specs.Text.{bytes}
 use Rattle.store.specs.Rows.{nodeRoom, numberRoom, rowNumbers, rowAt, spanStartAt, spanLengthAt}
 use Rattle.grammar.specs.Reading.{reading}
-use Rattle.wkt.specs.declared.ReadAnswer.{ReadAnswer}
+use Rattle.store.specs.declared.ReadAnswer.{ReadAnswer}
 use Rattle.wkt.specs.Leaves.{Leaves}
 use Rattle.printing.specs.Printing.{Buffer, putAllIn, spaced}
 use Rattle.console.specs.Console.{isOverInput, newline, countsLine, refusalLine, tooLongLine}

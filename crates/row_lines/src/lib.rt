@@ -16,7 +16,7 @@ use printing::least;
 use printing::put;
 use printing::put_spaced;
 use store::NODE_WIDTH;
-use wkt::ReadAnswer;
+use store::ReadAnswer;
 ghost use mathlib.Core.Path.{_≡_};
 ghost use Rattle.printing.specs.Printing.{buffer, putAllIn};
 ghost use Rattle.row_lines.specs.Lines.{nodeNumbers, nodeLine, numberLine, linesOf, answerLine, listingLines, Listed};

@@ -1,8 +1,8 @@
 -- The walk as the code takes it, step by step, with its frames as numbers in a lent array: `proofs/Stepped` shows that it meets what `Nodes` says.
-use mathlib.Core.Bool.{Bool, cond, not, _&&_}
+use mathlib.Core.Bool.{Bool, true, false, cond, not, _&&_}
 use mathlib.Core.Option.{Option}
 use mathlib.Core.List.{List, [], _∷_}
-use Prim.Native.Nat.{ℕ, _+_, _-_, _*_, _/_, _%_, _^_, _≤_, _<_}
+use Prim.Native.Nat.{ℕ, zero, suc, _+_, _-_, _*_, _/_, _%_, _^_, _≤_, _<_}
 use lib.Dec.{eqb, leb, ltb}
 use lib.ListN.{drop, getD, set}
 use lib.Seq.{sets}
@@ -16,6 +16,10 @@ use Rattle.shape.specs.declared.Met.{Met}
 use Rattle.shape.specs.declared.Met.the-variants.{Node, End, Done, Ill}
 use Rattle.shape.specs.declared.Coming.{Coming}
 use Rattle.shape.specs.declared.Coming.the-variants as coming
+use Rattle.shape.specs.declared.Wanted.{Wanted}
+use Rattle.shape.specs.declared.Wanted.the-variants as wanted
+use Rattle.shape.specs.declared.Entered.{Entered}
+use Rattle.shape.specs.declared.Entered.the-variants as entered
 use Rattle.shape.specs.Nodes.{noKind, frame, above, visitOf, numbersOf, isLeaf, isAllowed, mayOpen, frameOf, isSpent, meets}
 use Rattle.shape.specs.Numbers.{areNumbers}
 use Rattle.shape.specs.Store.{areWhole, allRows}
@@ -101,15 +105,45 @@ pushing s w v =
 unfoldable pub meeting : List ℕ → ℕ → Walk → Visit → After
 meeting s count w v = cond (isAllowed v) (cond (isLeaf v) (passingLeaf s count w v) (pushing s w v)) (ill s w)
 
--- a row that is given, if one is wanted and can be counted
-abbrev pub givenAt : List ℕ → ℕ → Walk → Row → Coming → After
-givenAt s count w r (coming.Child f) = cond (ltb (w .row + 1) (2 ^ 64)) (meeting s count w (visitOf (w .row) (w .number) f r)) (ill s w)
-givenAt s count w r (coming.End i n w′) = ill s w
-givenAt s count w r coming.Last = ill s w
+-- ---- rows that are given one by one
+-- the innermost open node that wants a child, among n frames from t on: those before it have ended
+unfoldable pub wantedIn : List ℕ → ℕ → ℕ → Wanted
+wantedIn s zero t = wanted.None
+wantedIn s (suc n) t = cond (isSpent (frameAt s t)) (cond (eqb (frameAt s t .kind) noKind) wanted.None (wantedIn s n (t + 1))) (wanted.Below t)
 
-unfoldable pub given : List ℕ → ℕ → Walk → Row → After
-given s count w r = givenAt s count w r (comingNext s w)
+abbrev pub wantedFrom : List ℕ → ℕ → Wanted
+wantedFrom s top = wantedIn s (frames - top) top
 
+abbrev pub isNode : Met → Bool
+isNode (Node v) = true
+isNode (End i n) = false
+isNode Done = false
+isNode Ill = false
+
+-- a node was met, and the walk goes on; or none was
+abbrev pub enteredBy : After → Entered × List ℕ
+enteredBy (a, s) = (cond (isNode (a .met)) (entered.To (a .next)) entered.Ill, s)
+
+-- a row is met where one is wanted, if it can be counted
+abbrev pub enteringAt : List ℕ → ℕ → Walk → Row → Wanted → Entered × List ℕ
+enteringAt s count w r wanted.None = (entered.Ill, s)
+enteringAt s count w r (wanted.Below t) =
+    cond (ltb (w .row + 1) (2 ^ 64))
+    (enteredBy (meeting s count (walkAt (w .row) (w .number) t) (visitOf (w .row) (w .number) (frameAt s t) r)))
+    (entered.Ill, s)
+
+unfoldable pub entering : List ℕ → ℕ → Walk → Row → Entered × List ℕ
+entering s count w r = enteringAt s count w r (wantedFrom s (w .top))
+
+-- none is wanted after the last, and no number is left
+abbrev pub endedAt : ℕ → Walk → Wanted → Bool
+endedAt count w (wanted.Below t) = false
+endedAt count w wanted.None = eqb (w .number) count
+
+unfoldable pub hasEnded : List ℕ → ℕ → Walk → Bool
+hasEnded s count w = endedAt count w (wantedFrom s (w .top))
+
+-- ---- rows of a slice
 -- the root has ended: no row and no number is left
 unfoldable pub lastMet : List ℕ → ℕ → Walk → Met
 lastMet nodes count w = cond (leb (nodeRoom nodes) (w .row) && eqb (w .number) count) Done Ill
@@ -130,9 +164,13 @@ rowsFrom nodes i = drop i (allRows nodes)
 abbrev pub openAt : List ℕ → Walk → List Frame
 openAt s w = drop (w .top) (firsts (frameAt s) frames)
 
+-- what is still to be met of rows that are given
+abbrev pub aheadBy : ℕ → List ℕ → Walk → List Row → Option (List Met)
+aheadBy count s w rs = meets count (openAt s w) (w .row) (w .number) rs
+
 -- what is still to be met
 abbrev pub ahead : List ℕ → ℕ → List ℕ → Walk → Option (List Met)
-ahead nodes count s w = meets count (openAt s w) (w .row) (w .number) (rowsFrom nodes (w .row))
+ahead nodes count s w = aheadBy count s w (rowsFrom nodes (w .row))
 
 -- what is met in all
 abbrev pub wholeWalk : List ℕ → ℕ → Option (List Met)

@@ -7,7 +7,8 @@ ghost use Rattle.store.specs.Rows.{row, rowAt};
 ghost use Rattle.shape.specs.Nodes.{visitOf, isLeaf, numbersOf, isFree, childKind, isGeometry, isChild, isAllowed, mayOpen, frameOf};
 ghost use Rattle.shape.specs.Numbers.{textAt, isNumberAt, areNumbers};
 ghost use Rattle.shape.specs.Store.{isSome, wellFormed};
-ghost use Rattle.shape.specs.Walk.{frames, half, HasChild, frameAt, putFrame, putNext, beginning, comingIn, comingNext, passingLeaf, pushing, meeting, given, lastMet, walkStep, areRows, wholeWalk};
+ghost use Rattle.shape.specs.declared.Coming.the-variants.{Child};
+ghost use Rattle.shape.specs.Walk.{frames, half, HasChild, frameAt, putFrame, putNext, beginning, comingIn, comingNext, passingLeaf, pushing, meeting, wantedFrom, isNode, entering, hasEnded, lastMet, walkStep, areRows, wholeWalk};
 use kinds::DIM_XYZM;
 use kinds::KIND_GEOMETRYCOLLECTION;
 use kinds::KIND_LINESTRING;
@@ -44,6 +45,9 @@ const NEXT: usize = 6;
 
 // How many numbers the frames have in all.
 pub const CELLS: usize = 245;
+
+// No row can be counted after this one.
+const LAST_ROW: usize = 18446744073709551615;
 
 // What a number of the array can hold.
 const HALF: usize = 4294967296;
@@ -91,6 +95,18 @@ pub enum Coming {
     Child(Frame),
     End(usize, usize, Walk),
     Last,
+}
+
+// What comes of a row that is given: the walk after it, or that it is ill where the walk stands.
+pub enum Entered {
+    To(Walk),
+    Ill,
+}
+
+// Whether a child of an open node is wanted, and of which: by its frame.
+enum Wanted {
+    Below(usize),
+    None,
 }
 
 // What a step met, and the walk after it. On `Done` and `Ill` the walk stays.
@@ -369,7 +385,37 @@ fn meet(cells: &mut [u32; CELLS], count: usize, w: Walk, v: Visit) -> Walked
     }
 }
 
-// Meets a row by what it says, of rows that have `count` numbers; where no row is wanted it is ill.
+// The innermost open node that wants a child, from the frame `top` on: those inside it have ended.
+fn wanting(cells: &[u32; CELLS], top: usize) -> Wanted
+    ensures { λ r. ⌜ r ≡ wantedFrom (now (cells .entry)) top ⌝ }
+{
+    let mut at = top;
+    while at < FRAMES {
+        let f = frame_at(cells, at);
+        if f.next < f.parts {
+            return Wanted::Below(at);
+        }
+        if f.kind == NO_KIND {
+            return Wanted::None;
+        }
+        at += 1;
+    }
+    Wanted::None
+}
+
+fn is_node(met: Met) -> bool
+    ensures { λ r. ⌜ r ≡ isNode met ⌝ }
+{
+    match met {
+        Met::Node(_) => true,
+        Met::End(_, _) => false,
+        Met::Done => false,
+        Met::Ill => false,
+    }
+}
+
+// Meets a row that is given by what it says, of rows that have `count` numbers: nodes that have ended before it are passed. Whoever has the rows
+// elsewhere than in a slice gives them one by one, and asks `has_ended` after the last.
 pub fn enter(
     cells: &mut [u32; CELLS],
     count: usize,
@@ -377,36 +423,44 @@ pub fn enter(
     kind: u32,
     dimension: u32,
     parts: u32,
-) -> Walked
-    ensures { λ r. ⌜ (r, now (cells .exit)) ≡ given (now (cells .entry)) count w (row kind dimension parts) ⌝ }
+) -> Entered
+    ensures { λ r. ⌜ (r, now (cells .exit)) ≡ entering (now (cells .entry)) count w (row kind dimension parts) ⌝ }
 {
-    let coming = next(cells, w);
-    match coming {
-        Coming::Child(parent) => {
-            if w.row < 18446744073709551615 {
-                let v = Visit {
-                    row: w.row,
-                    number: w.number,
-                    kind,
-                    dimension,
-                    parts,
-                    parent,
-                };
-                return meet(cells, count, w, v);
-            }
-            Walked {
-                met: Met::Ill,
-                next: w,
-            }
-        }
-        Coming::End(_, _, _) => Walked {
-            met: Met::Ill,
-            next: w,
-        },
-        Coming::Last => Walked {
-            met: Met::Ill,
-            next: w,
-        },
+    let wanted = wanting(cells, w.top);
+    let Wanted::Below(top) = wanted else {
+        return Entered::Ill;
+    };
+    if w.row == LAST_ROW {
+        return Entered::Ill;
+    }
+    let v = Visit {
+        row: w.row,
+        number: w.number,
+        kind,
+        dimension,
+        parts,
+        parent: frame_at(cells, top),
+    };
+    let here = Walk {
+        row: w.row,
+        number: w.number,
+        top,
+    };
+    let s = meet(cells, count, here, v);
+    if is_node(s.met) {
+        return Entered::To(s.next);
+    }
+    Entered::Ill
+}
+
+// Whether all that was opened has ended and no number is left.
+pub fn has_ended(cells: &[u32; CELLS], count: usize, w: Walk) -> bool
+    ensures { λ r. ⌜ r ≡ hasEnded (now (cells .entry)) count w ⌝ }
+{
+    let wanted = wanting(cells, w.top);
+    match wanted {
+        Wanted::Below(_) => false,
+        Wanted::None => w.number == count,
     }
 }
 
@@ -434,21 +488,37 @@ fn last(nodes: &[u32], count: usize, w: Walk) -> Met
     Met::Ill
 }
 
+// A row that is wanted below `parent` is met.
+fn step_in(nodes: &[u32], count: usize, cells: &mut [u32; CELLS], w: Walk, parent: Frame) -> Walked
+    requires { ⌜ comingNext (now cells) w ≡ Child parent ⌝ }
+    ensures { λ r. ⌜ (r, now (cells .exit)) ≡ walkStep (now (nodes .entry)) count (now (cells .entry)) w ⌝ }
+{
+    if w.row < store::node_room(nodes) {
+        let v = visit_at(nodes, w, parent);
+        let entered = enter(cells, count, w, v.kind, v.dimension, v.parts);
+        match entered {
+            Entered::To(after) => {
+                return Walked {
+                    met: Met::Node(v),
+                    next: after,
+                };
+            }
+            Entered::Ill => {}
+        }
+    }
+    Walked {
+        met: Met::Ill,
+        next: w,
+    }
+}
+
 // What is met next of rows that have `count` numbers.
 pub fn step(nodes: &[u32], count: usize, cells: &mut [u32; CELLS], w: Walk) -> Walked
     ensures { λ r. ⌜ (r, now (cells .exit)) ≡ walkStep (now (nodes .entry)) count (now (cells .entry)) w ⌝ }
 {
     let coming = next(cells, w);
     match coming {
-        Coming::Child(parent) => {
-            if w.row < store::node_room(nodes) {
-                return meet(cells, count, w, visit_at(nodes, w, parent));
-            }
-            Walked {
-                met: Met::Ill,
-                next: w,
-            }
-        }
+        Coming::Child(parent) => step_in(nodes, count, cells, w, parent),
         Coming::End(row, rows, after) => Walked {
             met: Met::End(row, rows),
             next: after,
@@ -466,24 +536,28 @@ fn is_tree(nodes: &[u32], count: usize) -> bool
 {
     let mut cells = [0; CELLS];
     let mut w = start(&mut cells);
-    loop {
-        let s = step(nodes, count, &mut cells, w);
-        let met = s.met;
-        match met {
-            Met::Node(_) => {
-                w = s.next;
+    let rows = store::node_room(nodes);
+    let mut i = 0;
+    while i < rows {
+        let entered = enter(
+            &mut cells,
+            count,
+            w,
+            store::kind_at(nodes, i),
+            store::dimension_at(nodes, i),
+            store::parts_at(nodes, i),
+        );
+        match entered {
+            Entered::To(after) => {
+                w = after;
             }
-            Met::End(_, _) => {
-                w = s.next;
-            }
-            Met::Done => {
-                return true;
-            }
-            Met::Ill => {
+            Entered::Ill => {
                 return false;
             }
         }
+        i += 1;
     }
+    has_ended(&cells, count, w)
 }
 
 // The text of a number: what of its span lies in the text.
@@ -510,7 +584,11 @@ fn is_number_at(text: &[u8], numbers: &[u32], i: usize) -> bool
     if text.len() < end {
         return false;
     }
-    number::is_lexeme(&text[start..end])
+    let w = &text[start..end];
+    if number::is_plain(w) {
+        return true;
+    }
+    number::is_lexeme(w)
 }
 
 // Whether each number lies in the text and is a lexeme.

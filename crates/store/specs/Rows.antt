@@ -130,6 +130,10 @@ openRow ns i k d = put nodeWidth ns i kindColumn (rowNumbers (freshRow k d))
 unfoldable pub closeRow : List ℕ → ℕ → ℕ → List ℕ
 closeRow ns i parts = put nodeWidth ns i partsColumn (parts ∷ [])
 
+-- row i with all its columns
+unfoldable pub putRow : List ℕ → ℕ → ℕ → ℕ → ℕ → List ℕ
+putRow ns i k d n = put nodeWidth ns i kindColumn (rowNumbers (row k d n))
+
 unfoldable pub putSpan : List ℕ → ℕ → ℕ → ℕ → List ℕ
 putSpan ms i start len = put numberWidth ms i startColumn (start ∷ len ∷ [])
 

@@ -1,12 +1,28 @@
 // Rows in lent slices: nodes and numbers, as document 01's "The store" lays them out.
 ghost use mathlib.Core.Path.{_≡_};
-ghost use Rattle.store.specs.Rows.{nodeWidth, numberWidth, nodeRoom, numberRoom, placesOf, openRow, closeRow, putSpan, cleared, kindAt, dimensionAt, partsAt, nodeColumn, spanStartAt, spanLengthAt, cell};
+ghost use Rattle.store.specs.Rows.{nodeWidth, numberWidth, nodeRoom, numberRoom, placesOf, openRow, closeRow, putRow, putSpan, cleared, kindAt, dimensionAt, partsAt, nodeColumn, spanStartAt, spanLengthAt, cell};
+ghost use Rattle.store.specs.Answers.{refused, Leaves};
 ghost use Prim.Native.Nat.{_≤_, _<_};
 ghost use lib.ListN.{length};
 
 pub const NODE_WIDTH: usize = 3;
 
 pub const NUMBER_WIDTH: usize = 2;
+
+// What a reader into a store answers: the counts of the used rows, with number and place 0; or a refusal's number and place, with zeros after them.
+pub struct ReadAnswer {
+    pub number: u32,
+    pub place: usize,
+    pub nodes: usize,
+    pub numbers: usize,
+}
+
+// What a writer of a store answers: how many bytes it wrote, with number and place 0; or a refusal's number and place, with a zero after them.
+pub struct WriteAnswer {
+    pub number: u32,
+    pub place: usize,
+    pub length: usize,
+}
 
 // The columns of a node row.
 const KIND: usize = 0;
@@ -91,6 +107,18 @@ pub fn put_number(numbers: &mut [u32], row: usize, start: u32, length: u32)
     }
 }
 
+// Puts a whole node row.
+pub fn put_row(nodes: &mut [u32], row: usize, kind: u32, dimension: u32, parts: u32)
+    ensures { λ _. ⌜ now (nodes .exit) ≡ putRow (now (nodes .entry)) row kind dimension parts ⌝ }
+{
+    if row < node_room(nodes) {
+        let at = row * NODE_WIDTH;
+        nodes[at + KIND] = kind;
+        nodes[at + DIMENSION] = dimension;
+        nodes[at + PARTS] = parts;
+    }
+}
+
 // Zeroes the slice from `from` on.
 pub fn clear(slice: &mut [u32], from: usize)
     ensures { λ _. ⌜ now (slice .exit) ≡ cleared (now (slice .entry)) from ⌝ }
@@ -153,4 +181,18 @@ pub fn length_at(numbers: &[u32], row: usize) -> u32
     ensures { λ r. ⌜ r ≡ spanLengthAt (now (numbers .entry)) row ⌝ }
 {
     cell_at(numbers, NUMBER_WIDTH, row, LENGTH)
+}
+
+// A reader refuses: both slices are zeroed.
+pub fn refuse(nodes: &mut [u32], numbers: &mut [u32], number: u32, place: usize) -> ReadAnswer
+    ensures { λ r. ⌜ Leaves (refused number place) (now (nodes .entry)) (now (numbers .entry)) r (now (nodes .exit)) (now (numbers .exit)) ⌝ }
+{
+    clear(nodes, 0);
+    clear(numbers, 0);
+    ReadAnswer {
+        number,
+        place,
+        nodes: 0,
+        numbers: 0,
+    }
 }

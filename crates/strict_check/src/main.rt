@@ -12,7 +12,7 @@ use printing::flush;
 use printing::put;
 use printing::put_spaced;
 use strict::StrictAnswer;
-use wkt::ReadAnswer;
+use store::ReadAnswer;
 
 const OUTPUT_BYTES: usize = 64;
 

@@ -22,7 +22,7 @@ use Rattle.canonical_text.specs.Canonical.{canonicalText}
 use Rattle.pen.specs.declared.Pen.{Pen}
 use Rattle.pen.specs.Pen.{pen, HasPut, ToPut, Emits}
 use Rattle.to_wkt.specs.declared.PutAnswer.{PutAnswer}
-use Rattle.to_wkt.specs.declared.WriteAnswer.{WriteAnswer}
+use Rattle.store.specs.declared.WriteAnswer.{WriteAnswer}
 use Rattle.to_wkt.specs.Canonical.{storeText, putMet, putAll}
 use Rattle.to_wkt.specs.Write.{accepted, refused, Written}
 use Rattle.to_wkt.specs.Put.{PutRows}

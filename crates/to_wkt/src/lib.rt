@@ -8,9 +8,9 @@ ghost use Rattle.names.specs.Letters.{isLetter};
 ghost use Rattle.pen.specs.Pen.{Emits};
 ghost use Rattle.canonical_text.specs.Canonical.{needsPlus, putDimension};
 ghost use Rattle.shape.specs.Walk.{NumbersIn, wholeWalk};
-ghost use Rattle.store.specs.Rows.{numberRoom, cleared};
+ghost use Rattle.store.specs.Rows.{numberRoom};
 ghost use Rattle.to_wkt.specs.Canonical.{putNumber, putCoordinate, putCoordinates, putName, putComma, putHead, putBody, putNode};
-ghost use Rattle.to_wkt.specs.Write.{HasCoordinate, HasCoordinates, refused, Written};
+ghost use Rattle.to_wkt.specs.Write.{HasCoordinate, HasCoordinates, Written};
 ghost use Rattle.to_wkt.specs.Put.{PutRows};
 use kinds::DIM_XY;
 use kinds::DIM_XYM;
@@ -40,13 +40,7 @@ use refusals::NO_ROOM;
 use shape::CELLS;
 use shape::Met;
 use shape::Visit;
-
-// The length of the text, with number and place 0; or the number of a refusal, with zeros after it.
-pub struct WriteAnswer {
-    pub number: u32,
-    pub place: usize,
-    pub length: usize,
-}
+use store::WriteAnswer;
 
 // Whether the rows are no tree; and if they are one, the pen after its text.
 struct PutAnswer {
@@ -255,32 +249,20 @@ fn put_rows(out: &mut [u8], text: &[u8], nodes: &[u32], numbers: &[u32]) -> PutA
     }
 }
 
-// A refusal leaves all of the room zero.
-fn refuse(out: &mut [u8], number: u32) -> WriteAnswer
-    ensures { λ r. ⌜ (r ≡ refused number) × (now (out .exit) ≡ cleared (now (out .entry)) 0) ⌝ }
-{
-    pen::clear(out, 0);
-    WriteAnswer {
-        number,
-        place: 0,
-        length: 0,
-    }
-}
-
 // Writes the canonical text; what lies after it in the room is zero.
 pub fn write(text: &[u8], nodes: &[u32], numbers: &[u32], out: &mut [u8]) -> WriteAnswer
     ensures { λ r. ⌜ Written (now (text .entry)) (now (nodes .entry)) (now (numbers .entry)) (length (now (out .entry))) r (now (out .exit)) ⌝ }
 {
     if !shape::are_rows(text, nodes, numbers) {
-        return refuse(out, ILL_FORMED_STORE);
+        return pen::refuse(out, ILL_FORMED_STORE);
     }
     let r = put_rows(out, text, nodes, numbers);
     if r.ill {
-        return refuse(out, ILL_FORMED_STORE);
+        return pen::refuse(out, ILL_FORMED_STORE);
     }
     let p = r.pen;
     if p.full {
-        return refuse(out, NO_ROOM);
+        return pen::refuse(out, NO_ROOM);
     }
     let length = p.at;
     pen::clear(out, length);

@@ -5,7 +5,7 @@ use mathlib.Core.Path.{_≡_}
 use mathlib.Core.List.{List}
 use Rattle.store.specs.Rows.{nodeRoom, numberRoom}
 use Rattle.grammar.specs.Reading.{reading}
-use Rattle.wkt.specs.declared.ReadAnswer.{ReadAnswer}
+use Rattle.store.specs.declared.ReadAnswer.{ReadAnswer}
 use Rattle.wkt.specs.Leaves.{Leaves, leaves-one}
 
 pub read-one : (text ns ms : List ℕ) {a a′ : ReadAnswer} {ns′ ns″ ms′ ms″ : List ℕ} → Leaves (reading (nodeRoom ns) (numberRoom ms) text) ns ms a ns′ ms′ → Leaves (reading (nodeRoom ns) (numberRoom ms) text) ns ms a′ ns″ ms″ → (a ≡ a′) × (ns′ ≡ ns″) × (ms′ ≡ ms″)

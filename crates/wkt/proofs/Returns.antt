@@ -26,7 +26,7 @@ use Rattle.answers.specs.declared.Answer.the-variants.{Read, Refused, Stopped}
 use Rattle.answers.specs.Reading.{spot, gotOf, Within, Reads, Fits}
 use Rattle.wkt.specs.Parts.{rootOf}
 use Rattle.wkt.specs.Leaves.{Leaves, rootIn, Finishes}
-use Rattle.wkt.specs.declared.ReadAnswer.{ReadAnswer}
+use Rattle.store.specs.declared.ReadAnswer.{ReadAnswer}
 
 -- what the slices are left with
 module _ {ns ms : List ℕ} {got : Answer} {ns′ ms′ : List ℕ} where

@@ -1,49 +1,29 @@
 -- What a call of `read` answers and leaves in both slices: one function of the text and the slices' lengths.
-use mathlib.Core.Path.{_≡_, sym, _∙_}
-use mathlib.Core.List.{List, []}
+use mathlib.Core.List.{List}
 use Prim.Native.Nat.{ℕ}
-use lib.ListN.{length}
 use Rattle.limits.specs.Limits.{depthLimit}
-use Rattle.tokenizer.specs.declared.Refusal.{Refusal}
 use Rattle.tokenizer.specs.Stream.{toks}
-use Rattle.store.specs.Rows.{rowsIn, spansIn, flatRows, flatSpans, padded}
+use Rattle.store.specs.Rows.{rowsIn, spansIn}
 use Rattle.grammar.specs.Asks.{run, answerIn}
 use Rattle.grammar.specs.Grammar.{out, Got, ok, refused, halt, root}
 use Rattle.grammar.specs.Reading.{enough}
 use Rattle.answers.specs.declared.Answer.{Answer}
 use Rattle.answers.specs.Reading.{gotOf}
-use Rattle.wkt.specs.declared.ReadAnswer.{ReadAnswer}
+use Rattle.store.specs.declared.ReadAnswer.{ReadAnswer}
+use Rattle.store.specs.Answers as answers
+use Rattle.store.specs.Answers.{Outcome, filled, readAnswer}
 
-abbrev pub refusal : Refusal → ReadAnswer
-refusal r = record { number = r .number; place = r .place; nodes = 0; numbers = 0 }
+-- the rows, or the refusal; whether a refusal is a halt is the grammar's own matter
+abbrev pub outcomeOf : Got → Outcome
+outcomeOf (ok (out rs ss)) = filled rs ss
+outcomeOf (refused r) = answers.refused (r .number) (r .place)
+outcomeOf (halt r) = answers.refused (r .number) (r .place)
 
--- "The reader answers number, place, node count, number count"; "Number and place are 0 when accepted, all after the place 0
--- when refused."
 abbrev pub answerOf : Got → ReadAnswer
-answerOf (ok (out rs ss)) = record { number = 0; place = 0; nodes = length rs; numbers = length ss }
-answerOf (refused r) = refusal r
-answerOf (halt r) = refusal r
+answerOf g = readAnswer (outcomeOf g)
 
--- the used rows as numbers: none after a refusal
-abbrev pub rowsOf : Got → List ℕ
-rowsOf (ok (out rs ss)) = flatRows rs
-rowsOf (refused r) = []
-rowsOf (halt r) = []
-
-abbrev pub spansOf : Got → List ℕ
-spansOf (ok (out rs ss)) = flatSpans ss
-spansOf (refused r) = []
-spansOf (halt r) = []
-
--- the answer, and every place of both slices: "Unused places are zero after every call."
-pub record Leaves (g : Got) (ns ms : List ℕ) (a : ReadAnswer) (ns′ ms′ : List ℕ) : Type 0 where
-  pub answer : a ≡ answerOf g
-  pub nodes : ns′ ≡ padded (rowsOf g) (length ns)
-  pub numbers : ms′ ≡ padded (spansOf g) (length ms)
-
--- two outcomes that the contract of `read` allows coincide
-pub leaves-one : {g : Got} {ns ms : List ℕ} {a a′ : ReadAnswer} {ns′ ns″ ms′ ms″ : List ℕ} → Leaves g ns ms a ns′ ms′ → Leaves g ns ms a′ ns″ ms″ → (a ≡ a′) × (ns′ ≡ ns″) × (ms′ ≡ ms″)
-leaves-one x y = (x .answer ∙ sym (y .answer), x .nodes ∙ sym (y .nodes), x .numbers ∙ sym (y .numbers))
+abbrev pub Leaves : Got → List ℕ → List ℕ → ReadAnswer → List ℕ → List ℕ → Type 0
+Leaves g ns ms a ns′ ms′ = answers.Leaves (outcomeOf g) ns ms a ns′ ms′
 
 -- what the tokens of a text are read to
 unfoldable pub rootIn : ℕ → ℕ → List ℕ → Got

@@ -24,12 +24,11 @@ use refusals::ILL_FORMED_UTF8;
 use refusals::TEXT_TOO_LONG;
 use store::NODE_WIDTH;
 use store::NUMBER_WIDTH;
-use tokenizer::Refusal;
+use store::ReadAnswer;
 ghost use mathlib.Core.Path.{_≡_};
 ghost use Prim.Native.Nat.{_+_, _<_, _^_};
 ghost use lib.ListN.{length};
 ghost use Rattle.store.specs.Rows.{nodeRoom, numberRoom};
-ghost use Rattle.grammar.specs.Grammar.{refused};
 ghost use Rattle.grammar.specs.Reading.{reading};
 ghost use Rattle.answers.specs.Reading.{spot, Fits, Within, Reads, closedOf};
 ghost use Rattle.wkt.specs.Parts.{simpleKind, bodyOf, simpleOf, childOf, rootOf};
@@ -148,28 +147,6 @@ fn root(text: &[u8], nodes: &mut [u32], numbers: &mut [u32]) -> Answer
     }
 }
 
-// What reading a text came to: a refusal's number and place, or 0 and 0 with the rows used.
-pub struct ReadAnswer {
-    pub number: u32,
-    pub place: usize,
-    pub nodes: usize,
-    pub numbers: usize,
-}
-
-// All of both slices zero, and the refusal.
-fn refuse(nodes: &mut [u32], numbers: &mut [u32], r: Refusal) -> ReadAnswer
-    ensures { λ a. ⌜ Leaves (refused r) (now (nodes .entry)) (now (numbers .entry)) a (now (nodes .exit)) (now (numbers .exit)) ⌝ }
-{
-    store::clear(nodes, 0);
-    store::clear(numbers, 0);
-    ReadAnswer {
-        number: r.number,
-        place: r.place,
-        nodes: 0,
-        numbers: 0,
-    }
-}
-
 // What the slices are left with: the rows used and zeros, or all zeros.
 fn finish(nodes: &mut [u32], numbers: &mut [u32], got: Answer) -> ReadAnswer
     requires { ⌜ Within (nodeRoom (now nodes)) (numberRoom (now numbers)) got ⌝ }
@@ -188,8 +165,8 @@ fn finish(nodes: &mut [u32], numbers: &mut [u32], got: Answer) -> ReadAnswer
                 numbers: used,
             }
         }
-        Answer::Refused(r, _) => refuse(nodes, numbers, r),
-        Answer::Stopped(r, _) => refuse(nodes, numbers, r),
+        Answer::Refused(r, _) => store::refuse(nodes, numbers, r.number, r.place),
+        Answer::Stopped(r, _) => store::refuse(nodes, numbers, r.number, r.place),
     }
 }
 
@@ -208,25 +185,11 @@ pub fn read(text: &[u8], nodes: &mut [u32], numbers: &mut [u32]) -> ReadAnswer
     ensures { λ a. ⌜ Leaves (reading (nodeRoom (now (nodes .entry))) (numberRoom (now (numbers .entry))) (now (text .entry))) (now (nodes .entry)) (now (numbers .entry)) a (now (nodes .exit)) (now (numbers .exit)) ⌝ }
 {
     if limits::is_over(text) {
-        return refuse(
-            nodes,
-            numbers,
-            Refusal {
-                number: TEXT_TOO_LONG,
-                place: TEXT_LIMIT,
-            },
-        );
+        return store::refuse(nodes, numbers, TEXT_TOO_LONG, TEXT_LIMIT);
     }
     let ill = utf8::first_ill_formed(text);
     if ill < text.len() {
-        return refuse(
-            nodes,
-            numbers,
-            Refusal {
-                number: ILL_FORMED_UTF8,
-                place: ill,
-            },
-        );
+        return store::refuse(nodes, numbers, ILL_FORMED_UTF8, ill);
     }
     read_root(text, nodes, numbers)
 }

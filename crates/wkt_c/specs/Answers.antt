@@ -7,9 +7,9 @@ use lib.ListN.{length}
 use Rattle.store.specs.Rows.{nodeRoom, numberRoom}
 use Rattle.grammar.specs.Grammar.{Got}
 use Rattle.grammar.specs.Reading.{reading}
-use Rattle.wkt.specs.declared.ReadAnswer.{ReadAnswer}
+use Rattle.store.specs.declared.ReadAnswer.{ReadAnswer}
 use Rattle.wkt.specs.Leaves.{Leaves, answerOf}
-use Rattle.to_wkt.specs.declared.WriteAnswer.{WriteAnswer}
+use Rattle.store.specs.declared.WriteAnswer.{WriteAnswer}
 use Rattle.to_wkt.specs.Canonical.{storeText}
 use Rattle.to_wkt.specs.Write as write
 use Rattle.strict.specs.declared.StrictAnswer.{StrictAnswer}

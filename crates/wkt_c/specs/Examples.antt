@@ -2,8 +2,8 @@
 use mathlib.Core.Path.{_≡_, refl}
 use mathlib.Core.List.{List, [], _∷_}
 use Prim.Native.Nat.{ℕ}
-use Rattle.wkt.specs.declared.ReadAnswer.{ReadAnswer}
-use Rattle.to_wkt.specs.declared.WriteAnswer.{WriteAnswer}
+use Rattle.store.specs.declared.ReadAnswer.{ReadAnswer}
+use Rattle.store.specs.declared.WriteAnswer.{WriteAnswer}
 use Rattle.strict.specs.declared.StrictAnswer.{StrictAnswer}
 use Rattle.infer_type.specs.declared.Inferred.{Inferred}
 use Rattle.wkt_c.specs.Answers.{readPlaces, writePlaces, strictPlaces, inferPlaces}
