@@ -5,18 +5,14 @@ use mathlib.Core.List.{List, [], _∷_, _++_, append-assoc, append-nil}
 use Prim.Native.Nat.{ℕ, zero, suc, _+_, _-_, _/_, _%_, _≤_, _<_}
 use native.Mathlib.Omega.{arith}
 use native.Mathlib.Numerals.{add-one}
-use lib.ListN.{length, take, drop, set, getD, length-append, length-set}
+use lib.ListN.{length, take, drop, set, getD, length-set}
 use lib.Seq.{sets, sets-eq, length-sets, set-split, drop-at, drop-drop, drop-length, length-take-le}
 use borrow.Rule.Slice.PartMut.{midOf, putMid, mid-len}
 use Rattle.fields.specs.Counts.{byte, countBytes}
 use Rattle.fields.specs.Fields.{lengthWidth, headLength, longest, field}
+use Rattle.fields.proofs.Counts.{bytes-length}
 
 -- ---- a count
-pub count-width : (w n : ℕ) → length (countBytes w n) ≡ w
-unfolding countBytes
-count-width zero n = refl
-count-width (suc w) n = length-append (countBytes w (n / byte)) (n % byte ∷ []) ∙ rw (count-width w (n / byte)) (add-one w)
-
 drop-set : (l : List ℕ) (i a : ℕ) → i < length l → drop i (set l i a) ≡ a ∷ drop (suc i) l
 drop-set l i a h = ap (drop i) (set-split l i a h) ∙ drop-at (take i l) (a ∷ drop (suc i) l) i (length-take-le i l (omega arith))
 
@@ -38,10 +34,6 @@ module _ (bytes : List ℕ) where
   count-all rest i h = let z : i ≡ 0 = omega arith in rw z
 
 -- ---- a field
-pub field-length : (tag : ℕ) (content : List ℕ) → length (field tag content) ≡ headLength + length content
-unfolding field
-field-length tag content = omega (arith, length-append (countBytes lengthWidth (length content)) content, count-width lengthWidth (length content))
-
 -- a length's lowest two bytes are those of what they can say of it
 pub low-length : (n : ℕ) → countBytes lengthWidth (n % (longest + 1)) ≡ countBytes lengthWidth n
 unfolding countBytes
@@ -78,7 +70,7 @@ module _ (out content counted : List ℕ) (at tag : ℕ) (fits : at + headLength
       is ∙ rw n (low-length (length content))
 
   is-headed : headed ≡ sets (set out at tag) (at + 1) counted
-  is-headed = let l = length-set out at tag in part-put (set out at tag) counted (at + 1) (at + headLength) (omega arith) (omega arith) (ap length its-count ∙ count-width lengthWidth (length content) ∙ omega arith)
+  is-headed = let l = length-set out at tag in part-put (set out at tag) counted (at + 1) (at + headLength) (omega arith) (omega arith) (ap length its-count ∙ bytes-length lengthWidth (length content) ∙ omega arith)
 
   pub headed-length : length headed ≡ length out
   headed-length = ap length is-headed ∙ length-sets (set out at tag) (at + 1) counted ∙ length-set out at tag
@@ -87,7 +79,7 @@ module _ (out content counted : List ℕ) (at tag : ℕ) (fits : at + headLength
   pub field-all : sets headed (at + headLength) content ≡ sets out at (field tag content)
   unfolding field
   field-all =
-      let n : at + headLength ≡ at + 1 + length counted = omega (arith, ap length its-count, count-width lengthWidth (length content)) in
+      let n : at + headLength ≡ at + 1 + length counted = omega (arith, ap length its-count, bytes-length lengthWidth (length content)) in
       ap (λ (l : List ℕ). sets l (at + headLength) content) is-headed
       ∙ ap (λ (i : ℕ). sets (sets (set out at tag) (at + 1) counted) i content) n
       ∙ sets-after counted content (set out at tag) (at + 1)

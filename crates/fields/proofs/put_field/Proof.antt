@@ -7,7 +7,8 @@ use lib.ListN.{length, drop, length-set}
 use lib.Seq.{sets}
 use borrow.Author.Needs.{needs}
 use Rattle.fields.specs.Fields.{headLength, field}
-use Rattle.fields.proofs.Put.{field-length, headed-length, field-all, field-one}
+use Rattle.fields.proofs.Fields.{field-length}
+use Rattle.fields.proofs.Put.{headed-length, field-all, field-one}
 use Rattle.pen.proofs.Puts.{puts-full, puts-none, puts-all, sets-on, sets-end, sets-start}
 use Rattle.fields.proofs.put_field.Statement.{statement}
 use Rattle.fields.proofs.put_field.Tie as tie
