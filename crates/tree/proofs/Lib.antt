@@ -1,2 +1,3 @@
 pub mod TreeIn
 pub mod Closed
+pub mod Parts
