@@ -11,9 +11,10 @@ use Rattle.shape.specs.declared.Walked.{Walked}
 use Rattle.shape.specs.declared.Met.{Met}
 use Rattle.shape.specs.declared.Met.the-variants.{Node, End, Done, Ill}
 use Rattle.shape.specs.Nodes.{follow}
-use Rattle.shape.specs.Walk.{cells, After, beginning, walkStep, ahead, wholeWalk}
+use Rattle.shape.specs.Walk.{cells, After, beginning, walkStep, rowsFrom, aheadBy, ahead, wholeWalk}
 use Rattle.shape.proofs.Trees.{follow-none, follow-both}
-use Rattle.shape.proofs.Stepped.{Reached, reached-begin, ahead-begin, Forward, SteppedTo, Stepped, stepped}
+use Rattle.shape.proofs.Fed.{Reached, given-begin}
+use Rattle.shape.proofs.Stepped.{Forward, SteppedTo, Stepped, stepped}
 
 pub record Walking (nodes : List ℕ) (count : ℕ) (s : List ℕ) (w : Walk) (P : List Met → Type 0) : Type 0 where
   pub reached : Reached s w
@@ -23,14 +24,13 @@ pub record Walking (nodes : List ℕ) (count : ℕ) (s : List ℕ) (w : Walk) (P
 
 pub begin : (nodes : List ℕ) (count : ℕ) (s₀ : List ℕ) {s : List ℕ} {w : Walk} {P : List Met → Type 0} → length s₀ ≡ cells → (w, s) ≡ beginning s₀ → P [] → Walking nodes count s w P
 begin nodes count s₀ {s} {w} {P} long e p =
-    let i : w ≡ beginning s₀ .0 = ap (λ x. x .0) e in
-    let j : s ≡ beginning s₀ .1 = ap (λ x. x .1) e in
-    rw (i, j) (record {
-      reached = reached-begin s₀ long;
+    let b = given-begin s₀ long e in
+    record {
+      reached = b .reached;
       passed = [];
-      whole = sym (follow-none (ahead nodes count (beginning s₀ .1) (beginning s₀ .0)) ∙ ahead-begin s₀ long nodes count);
+      whole = sym (follow-none (ahead nodes count s w) ∙ ap (λ i. aheadBy count s w (rowsFrom nodes i)) (b .row) ∙ b .whole count (rowsFrom nodes 0));
       holds = p;
-    })
+    }
 
 -- a thing is met: a node, or the end of one
 abbrev pub Thing : Met → Type 0
