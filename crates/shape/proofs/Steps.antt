@@ -22,33 +22,33 @@ use Rattle.shape.specs.Walk.{frames, HasChild, frameAt, putFrame, putNex
 use Rattle.shape.proofs.Wants.{wants-here, WantsBelow, wants-below}
 
 -- ---- a row that is given
+-- a node wants a child, and the row can be counted
+module _ (s : List ℕ) (w : Walk) (r : Row) (t : ℕ) (e : wantedFrom s (w .top) ≡ Below t) (counted : w .row + 1 < 2 ^ 64) (f : Frame) (i : f ≡ frameAt s t) where
+  pub has-child : HasChild (walkAt (w .row) (w .number) t) (visitOf (w .row) (w .number) f r)
+  has-child =
+      let h = wants-below s e in
+      record { row = counted; top = h .inside; next = rw i (leb-false (frameAt s t .parts) (frameAt s t .next) (h .unspent)) }
+
+  enters : (count : ℕ) → entering s count w r ≡ enteredBy (meeting s count (walkAt (w .row) (w .number) t) (visitOf (w .row) (w .number) f r))
+  unfolding entering
+  enters count = rw (e, lt-ltb (w .row + 1) (2 ^ 64) counted, i)
+
+  -- a node was met; or none was
+  module _ (count : ℕ) (a : After) (m : a ≡ meeting s count (walkAt (w .row) (w .number) t) (visitOf (w .row) (w .number) f r)) where
+    pub enters-to : isNode (a .0 .met) ≡ true → (To (a .0 .next), a .1) ≡ entering s count w r
+    enters-to n = rw (enters count, ← m, n)
+
+    pub enters-ill : isNode (a .0 .met) ≡ false → (Ill, a .1) ≡ entering s count w r
+    enters-ill n = rw (enters count, ← m, n)
+
 module _ (s : List ℕ) (count : ℕ) (w : Walk) (r : Row) where
   pub none-wanted : wantedFrom s (w .top) ≡ None → (Ill, s) ≡ entering s count w r
   unfolding entering
   none-wanted e = rw e
 
-  module _ (t : ℕ) (e : wantedFrom s (w .top) ≡ Below t) where
-    pub not-counted : 2 ^ 64 ≤ w .row + 1 → (Ill, s) ≡ entering s count w r
-    unfolding entering
-    not-counted h = rw (e, le-ltb (w .row + 1) (2 ^ 64) h)
-
-    module _ (counted : w .row + 1 < 2 ^ 64) where
-      pub has-child : (f : Frame) → f ≡ frameAt s t → HasChild (walkAt (w .row) (w .number) t) (visitOf (w .row) (w .number) f r)
-      has-child f i =
-          let h = wants-below s e in
-          record { row = counted; top = h .inside; next = rw i (leb-false (frameAt s t .parts) (frameAt s t .next) (h .unspent)) }
-
-      pub enters : (f : Frame) → f ≡ frameAt s t → entering s count w r ≡ enteredBy (meeting s count (walkAt (w .row) (w .number) t) (visitOf (w .row) (w .number) f r))
-      unfolding entering
-      enters f i = rw (e, lt-ltb (w .row + 1) (2 ^ 64) counted, i)
-
-      -- a node was met; or none was
-      module _ (f : Frame) (i : f ≡ frameAt s t) (a : After) (m : a ≡ meeting s count (walkAt (w .row) (w .number) t) (visitOf (w .row) (w .number) f r)) where
-        pub enters-to : isNode (a .0 .met) ≡ true → (To (a .0 .next), a .1) ≡ entering s count w r
-        enters-to n = rw (enters f i, ← m, n)
-
-        pub enters-ill : isNode (a .0 .met) ≡ false → (Ill, a .1) ≡ entering s count w r
-        enters-ill n = rw (enters f i, ← m, n)
+  pub not-counted : (t : ℕ) → wantedFrom s (w .top) ≡ Below t → 2 ^ 64 ≤ w .row + 1 → (Ill, s) ≡ entering s count w r
+  unfolding entering
+  not-counted t e h = rw (e, le-ltb (w .row + 1) (2 ^ 64) h)
 
 -- ---- a row of the slice
 -- a child is wanted of an open node that has one to come
@@ -66,7 +66,7 @@ module _ (s : List ℕ) (w : Walk) (f : Frame) where
           (ltb-true (w .top) frames x, rw i at (leb-false (frameAt s (w .top) .parts) (frameAt s (w .top) .next) y), sym i)
 
 -- what is met, told by what comes of the row: the node itself, or nothing, and then the walk stays
-abbrev pub metBy : Walk → Visit → Entered × List ℕ → After
+abbrev metBy : Walk → Visit → Entered × List ℕ → After
 metBy w v (To w′, s) = (walked (met.Node v) w′, s)
 metBy w v (Ill, s) = ill s w
 
@@ -104,10 +104,19 @@ module _ (nodes : List ℕ) (count : ℕ) (s : List ℕ) (w : Walk) (f : Frame) 
   unfolding walkStep
   no-row h = rw (e, le-ltb (w .row) (nodeRoom nodes) h)
 
-  pub row-given : (v : Visit) (x : Entered) (s′ : List ℕ) → w .row < nodeRoom nodes → nodeRoom nodes < 2 ^ 64 → v ≡ visitOf (w .row) (w .number) f (rowAt nodes (w .row)) → (x, s′) ≡ entering s count w (row (v .kind) (v .dimension) (v .parts)) → metBy w v (x, s′) ≡ walkStep nodes count s w
-  unfolding walkStep
-  row-given v x s′ h fits i q =
-      let o = wanted-of s w f e in
-      let b : wantedFrom s (w .top) ≡ Below (w .top) = wants-here s (w .top) f (o .2) (o .0) (o .1) in
-      let m : (x, s′) ≡ enteredBy (meeting s count w v) = q ∙ rw i (enters s count w (rowAt nodes (w .row)) (w .top) b (omega arith) f (o .2)) in
-      ap (metBy w v) m ∙ told s count w v ∙ rw (e, lt-ltb (w .row) (nodeRoom nodes) h, i)
+  -- the next row is given
+  module _ (v : Visit) (i : v ≡ visitOf (w .row) (w .number) f (rowAt nodes (w .row))) (here : w .row < nodeRoom nodes) (counted : w .row + 1 < 2 ^ 64) (x : Entered) (s′ : List ℕ)
+      (q : (x, s′) ≡ entering s count w (row (v .kind) (v .dimension) (v .parts))) where
+    given : metBy w v (x, s′) ≡ walkStep nodes count s w
+    unfolding walkStep
+    given =
+        let o = wanted-of s w f e in
+        let b : wantedFrom s (w .top) ≡ Below (w .top) = wants-here s (w .top) f (o .2) (o .0) (o .1) in
+        let m : (x, s′) ≡ enteredBy (meeting s count w v) = q ∙ rw i (enters s w (rowAt nodes (w .row)) (w .top) b counted f (o .2) count) in
+        ap (metBy w v) m ∙ told s count w v ∙ rw (e, lt-ltb (w .row) (nodeRoom nodes) here, i)
+
+    pub row-to : (w′ : Walk) → x ≡ To w′ → (walked (met.Node v) w′, s′) ≡ walkStep nodes count s w
+    row-to w′ z = rw z at given
+
+    pub row-ill : x ≡ Ill → ill s′ w ≡ walkStep nodes count s w
+    row-ill z = rw z at given

@@ -22,10 +22,10 @@ frame-at-requires : tie.Need-frame-at-requires Inv-loop μ-loop
 frame-at-requires c κs = search needs
 
 returns : tie.Need-returns Inv-loop μ-loop
-returns c = ?
+returns c = sym (c .before .before .before .before .loop .inv ∙ wants-here _ _ _ (c .before .before .frame-at .ensures) (c .before .before .before .loop-test .taken) (c .if1 .taken))
 
 returns-2 : tie.Need-returns-2 Inv-loop μ-loop
-returns-2 c = ?
+returns-2 c = sym (c .before .before .before .before .before .before .loop .inv ∙ above-spent _ _ _ (c .before .before .before .before .frame-at .ensures) (c .before .before .before .before .before .loop-test .taken) (c .before .before .if1 .left) (c .if2 .taken))
 
 add-at : tie.Need-add-at Inv-loop μ-loop
 add-at c = search needs
@@ -34,10 +34,10 @@ loop-less : tie.Need-loop-less Inv-loop μ-loop
 loop-less c = search needs
 
 loop-again : tie.Need-loop-again Inv-loop μ-loop
-loop-again c = ?
+loop-again c = c .before .before .before .before .before .before .loop .inv ∙ node-spent _ _ _ (c .before .before .before .before .frame-at .ensures) (c .before .before .before .before .before .loop-test .taken) (c .before .before .if1 .left) (c .if2 .left)
 
 returns-3 : tie.Need-returns-3 Inv-loop μ-loop
-returns-3 c = ?
+returns-3 c = sym (c .before .loop .inv ∙ no-frame _ _ (c .loop-test .left))
 
 pub wanting-spec : {M : Type 1} → statement M
 wanting-spec =
