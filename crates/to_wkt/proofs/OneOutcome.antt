@@ -8,5 +8,5 @@ use Rattle.store.specs.Answers.{writes-one}
 use Rattle.to_wkt.specs.Write.{Written}
 
 -- two outcomes of `write`: the answer and the room
-pub write-one : {text nodes numbers out out′ : List ℕ} {room : ℕ} {r r′ : WriteAnswer} → Written text nodes numbers room r out → Written text nodes numbers room r′ out′ → (r ≡ r′) × (out ≡ out′)
-write-one x y = writes-one x y
+pub write-one : (text nodes numbers : List ℕ) {out out′ : List ℕ} {room : ℕ} {r r′ : WriteAnswer} → Written text nodes numbers room r out → Written text nodes numbers room r′ out′ → (r ≡ r′) × (out ≡ out′)
+write-one text nodes numbers x y = writes-one x y

@@ -66,7 +66,7 @@ module _ (text nodes numbers : List ℕ) where
       go none e = refl
       go (some t) e = let z : _≡_ {A = ℕ} 0 1 = cc in absurd (omega arith)
 
-  pub said-ill : {out left : List ℕ} {room : ℕ} {r : WriteAnswer} → length out ≡ room → walkOf text nodes numbers ≡ none → Writes (refusal illFormedStore) (length out) r left → Written text nodes numbers room r left
+  pub said-ill : {n room : ℕ} {r : WriteAnswer} {left : List ℕ} → n ≡ room → walkOf text nodes numbers ≡ none → Writes (refusal illFormedStore) n r left → Written text nodes numbers room r left
   said-ill same w h = rw (no-text w, ← same) h
 
   -- by what the loop left
