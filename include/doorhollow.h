@@ -74,7 +74,7 @@ extern "C" {
 /* The refusals. Beside each stands its message, for 6 to 21 that of the Rust crate wkt; 19 names the prefix after it. */
 #define DOORHOLLOW_OK 0
 /* tools/refusals: from here on */
-#define DOORHOLLOW_TEXT_TOO_LONG 1 /* The text has more than 65,535 bytes */
+#define DOORHOLLOW_TEXT_TOO_LONG 1 /* More bytes than a text (65,535) or a stored tree (1,048,576) may have */
 #define DOORHOLLOW_ILL_FORMED_UTF8 2 /* The text is not well-formed UTF-8 */
 #define DOORHOLLOW_NO_NODE_ROW 3 /* No room for another node */
 #define DOORHOLLOW_NO_NUMBER_ROW 4 /* No room for another number */
@@ -96,7 +96,7 @@ extern "C" {
 #define DOORHOLLOW_EMPTY_WITHOUT_SPACE 20 /* Invalid WKT; no whitespace between geometry type and EMPTY. */
 #define DOORHOLLOW_NEITHER_PAREN_NOR_EMPTY 21 /* Invalid WKT; no '(' character and not EMPTY */
 #define DOORHOLLOW_ILL_FORMED_STORE 22 /* The rows are not a well-formed store */
-#define DOORHOLLOW_NO_ROOM 23 /* The canonical text is longer than the room */
+#define DOORHOLLOW_NO_ROOM 23 /* What is written is longer than the room */
 #define DOORHOLLOW_NON_ASCII 24 /* The part that names the type is not ASCII */
 #define DOORHOLLOW_FAULTY_FIELD 25 /* A field is cut, missing, left over, or has another tag or length than the stored form */
 #define DOORHOLLOW_UNKNOWN_VERSION 26 /* The stored bytes are of another version */
