@@ -101,7 +101,7 @@ extern "C" {
 #define DOORHOLLOW_ILL_FORMED_STORE 22 /* The rows are not a well-formed store */
 #define DOORHOLLOW_NO_ROOM 23 /* What is written is longer than the room */
 #define DOORHOLLOW_NON_ASCII 24 /* The part that names the type is not ASCII */
-#define DOORHOLLOW_FAULTY_FIELD 25 /* A field is cut, missing, left over, or has another tag or length than the stored form */
+#define DOORHOLLOW_FAULTY_FIELD 25 /* A field is cut, missing, extra or of wrong tag or length */
 #define DOORHOLLOW_UNKNOWN_VERSION 26 /* The stored bytes are of another version */
 #define DOORHOLLOW_DOES_NOT_FIT 27 /* A count, a number's text or the whole is too large for the stored form */
 /* tools/refusals: up to here */

@@ -72,7 +72,7 @@ pub const NO_ROOM: u32 = 23;
 /// `The part that names the type is not ASCII`
 pub const NON_ASCII: u32 = 24;
 
-/// `A field is cut, missing, left over, or has another tag or length than the stored form`
+/// `A field is cut, missing, extra or of wrong tag or length`
 pub const FAULTY_FIELD: u32 = 25;
 
 /// `The stored bytes are of another version`
@@ -107,7 +107,7 @@ pub(crate) fn message(number: u32) -> &'static str {
         ILL_FORMED_STORE => "The rows are not a well-formed store",
         NO_ROOM => "What is written is longer than the room",
         NON_ASCII => "The part that names the type is not ASCII",
-        FAULTY_FIELD => "A field is cut, missing, left over, or has another tag or length than the stored form",
+        FAULTY_FIELD => "A field is cut, missing, extra or of wrong tag or length",
         UNKNOWN_VERSION => "The stored bytes are of another version",
         DOES_NOT_FIT => "A count, a number's text or the whole is too large for the stored form",
         _ => "Unknown refusal",

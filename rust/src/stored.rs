@@ -138,7 +138,8 @@ impl Loaded {
 pub fn load<P: AsRef<Path> + ?Sized>(path: &P) -> Result<Loaded, FileError> {
     let path = path.as_ref();
     let bytes = read_file(path).map_err(|error| FileError::failed(path, error))?;
-    let (nodes, numbers) = read_rows(&bytes).map_err(|refusal| FileError::refused(path, refusal))?;
+    let (nodes, numbers) =
+        read_rows(&bytes).map_err(|refusal| FileError::refused(path, refusal))?;
     Ok(Loaded {
         bytes,
         nodes,
@@ -230,9 +231,15 @@ fn new_file(folder: &Path, name: &OsStr) -> io::Result<(PathBuf, File)> {
         beside.push(name);
         beside.push(format!(".{}-{tried}.new", process::id()));
         let beside = folder.join(beside);
-        match OpenOptions::new().write(true).create_new(true).open(&beside) {
+        match OpenOptions::new()
+            .write(true)
+            .create_new(true)
+            .open(&beside)
+        {
             Ok(file) => return Ok((beside, file)),
-            Err(error) if error.kind() == io::ErrorKind::AlreadyExists && tried < 1_000 => tried += 1,
+            Err(error) if error.kind() == io::ErrorKind::AlreadyExists && tried < 1_000 => {
+                tried += 1
+            }
             Err(error) => return Err(error),
         }
     }

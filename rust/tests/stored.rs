@@ -47,7 +47,10 @@ impl Drop for Folder {
 
 fn refused_in(path: &Path) -> Refusal {
     match load(path).unwrap_err() {
-        FileError::Refused { path: told, refusal } => {
+        FileError::Refused {
+            path: told,
+            refusal,
+        } => {
             assert_eq!(told, path);
             refusal
         }
@@ -78,7 +81,8 @@ fn the_same_tree_comes_back() {
 #[test]
 fn bytes_are_those_of_the_form() {
     let kept = read("POINT Z(1 2 +inf)").unwrap().to_stored().unwrap();
-    let expected = b"\x01\0\x05\x01\0\x01\0\x03\x02\0\x04\x01\x01\0\x01\x03\0\x011\x03\0\x012\x03\0\x03inf";
+    let expected =
+        b"\x01\0\x05\x01\0\x01\0\x03\x02\0\x04\x01\x01\0\x01\x03\0\x011\x03\0\x012\x03\0\x03inf";
     assert_eq!(kept, expected);
     let back = read_stored(&kept).unwrap();
     assert_eq!(back.number_span(2), Some(26..29));
@@ -158,13 +162,22 @@ fn a_file_that_is_refused_says_number_and_place() {
     assert_eq!(number_and_place(b""), (refusals::FAULTY_FIELD, 0));
     assert_eq!(number_and_place(&kept[..22]), (refusals::FAULTY_FIELD, 19));
     let extra = [&kept[..], b"x"].concat();
-    assert_eq!(number_and_place(&extra), (refusals::FAULTY_FIELD, kept.len()));
-    assert_eq!(number_and_place(b"\x01\xFF\xFF\x02"), (refusals::UNKNOWN_VERSION, 3));
+    assert_eq!(
+        number_and_place(&extra),
+        (refusals::FAULTY_FIELD, kept.len())
+    );
+    assert_eq!(
+        number_and_place(b"\x01\xFF\xFF\x02"),
+        (refusals::UNKNOWN_VERSION, 3)
+    );
     let mut ill = kept.clone();
     ill[18] = b'x';
     assert_eq!(number_and_place(&ill), (refusals::ILL_FORMED_STORE, 0));
     let long = vec![0; 2_000_000];
-    assert_eq!(number_and_place(&long), (refusals::TEXT_TOO_LONG, 1_048_576));
+    assert_eq!(
+        number_and_place(&long),
+        (refusals::TEXT_TOO_LONG, 1_048_576)
+    );
     let told = load(&path).unwrap_err().to_string();
     assert!(told.starts_with(path.to_str().unwrap()), "{told}");
     assert!(told.ends_with("(refused 1 at byte 1048576)"), "{told}");
@@ -174,12 +187,18 @@ fn a_file_that_is_refused_says_number_and_place() {
 fn a_file_that_cannot_be_had() {
     let folder = Folder::new("failed");
     let tree = read("POINT(1 2)").unwrap();
-    assert!(matches!(load(&folder.file("none")), Err(FileError::Failed { .. })));
+    assert!(matches!(
+        load(&folder.file("none")),
+        Err(FileError::Failed { .. })
+    ));
     assert!(matches!(load(&folder.0), Err(FileError::Failed { .. })));
     let nowhere = folder.file("no folder").join("shape");
     assert!(matches!(tree.save(&nowhere), Err(FileError::Failed { .. })));
     fs::create_dir(folder.file("taken")).unwrap();
-    assert!(matches!(tree.save(&folder.file("taken")), Err(FileError::Failed { .. })));
+    assert!(matches!(
+        tree.save(&folder.file("taken")),
+        Err(FileError::Failed { .. })
+    ));
     assert_eq!(folder.names(), ["taken"], "nothing is left beside it");
 }
 
@@ -193,7 +212,13 @@ fn links_and_permissions_stay() {
     fs::set_permissions(&path, fs::Permissions::from_mode(0o640)).unwrap();
     symlink(&path, &link).unwrap();
     read("POINT(3 4)").unwrap().save(&link).unwrap();
-    assert!(fs::symlink_metadata(&link).unwrap().file_type().is_symlink());
+    assert!(fs::symlink_metadata(&link)
+        .unwrap()
+        .file_type()
+        .is_symlink());
     assert_eq!(load(&path).unwrap().tree().to_wkt(), "POINT(3 4)");
-    assert_eq!(fs::metadata(&path).unwrap().permissions().mode() & 0o777, 0o640);
+    assert_eq!(
+        fs::metadata(&path).unwrap().permissions().mode() & 0o777,
+        0o640
+    );
 }

@@ -1,5 +1,5 @@
 // Lists the tree whose stored bytes come on standard input, as `listing` lists one that is read from a text. A refusal is told on standard error, as
-// `kept: refused 25 at byte 8: A field is cut, [..]`, and nothing is listed.
+// `kept: refused 25 at byte 8: A field is cut, missing, extra or of wrong tag or length`, and nothing is listed.
 use libc::STDIN_FILENO;
 use messages::complain;
 use printing::flush;
