@@ -49,6 +49,9 @@ pub fn put_complaint(out: &mut [u8], at: usize, program: &[u8], number: u32, pla
 // Tells of a refusal on standard error.
 pub fn complain(program: &[u8], number: u32, place: usize) {
     let mut line = [0u8; LINE_BYTES];
-    let end = least(put_complaint(&mut line, 0, program, number, place), LINE_BYTES);
+    let end = least(
+        put_complaint(&mut line, 0, program, number, place),
+        LINE_BYTES,
+    );
     io::write_all(STDERR_FILENO, &line[0..end]);
 }
