@@ -1,2 +1,4 @@
 pub mod Counts
 pub mod Fields
+pub mod Looks
+pub mod OneOutcome
