@@ -6,6 +6,8 @@ use mathlib.Core.List.{List, [], _∷_}
 use Rattle.lists.specs.One.{One}
 use Rattle.lists.proofs.One.{one}
 use Rattle.store.specs.Rows.{cleared}
+use Rattle.store.specs.declared.WriteAnswer.{WriteAnswer}
+use Rattle.store.specs.Answers.{refusal, Writes, writes-one}
 use Rattle.pen.specs.declared.Pen.{Pen}
 use Rattle.pen.specs.Pen.{Puts}
 
@@ -21,3 +23,6 @@ put_led-one x y = put-one x y
 
 pub clear-one : (out : List ℕ) (from : ℕ) → One (λ left. left ≡ cleared out from)
 clear-one out from = one
+
+pub refuse-one : {number room : ℕ} {r r′ : WriteAnswer} {out out′ : List ℕ} → Writes (refusal number) room r out → Writes (refusal number) room r′ out′ → (r ≡ r′) × (out ≡ out′)
+refuse-one x y = writes-one x y

@@ -5,7 +5,9 @@ use mathlib.Core.Path.{_≡_}
 use mathlib.Core.List.{List}
 use Rattle.lists.specs.One.{One}
 use Rattle.lists.proofs.One.{one}
-use Rattle.store.specs.Rows.{nodeWidth, numberWidth, nodeRoom, numberRoom, placesOf, openRow, closeRow, putSpan, cleared, kindAt, dimensionAt, partsAt, nodeColumn, spanStartAt, spanLengthAt}
+use Rattle.store.specs.declared.ReadAnswer.{ReadAnswer}
+use Rattle.store.specs.Answers.{refused, Leaves, leaves-one}
+use Rattle.store.specs.Rows.{nodeWidth, numberWidth, nodeRoom, numberRoom, placesOf, openRow, closeRow, putRow, putSpan, cleared, kindAt, dimensionAt, partsAt, nodeColumn, spanStartAt, spanLengthAt}
 
 module _ (slice : List ℕ) where
   pub node_room-one : One (λ r. r ≡ nodeRoom slice)
@@ -30,6 +32,9 @@ module _ (slice : List ℕ) (row : ℕ) where
   pub close_row-one : (parts : ℕ) → One (λ left. left ≡ closeRow slice row parts)
   close_row-one parts = one
 
+  pub put_row-one : (kind dimension parts : ℕ) → One (λ left. left ≡ putRow slice row kind dimension parts)
+  put_row-one kind dimension parts = one
+
   pub put_number-one : (start length : ℕ) → One (λ left. left ≡ putSpan slice row start length)
   put_number-one start length = one
 
@@ -50,3 +55,7 @@ module _ (slice : List ℕ) (row : ℕ) where
 
   pub length_at-one : One (λ r. r ≡ spanLengthAt slice row)
   length_at-one = one
+
+-- two outcomes of `refuse`: the answer and both slices
+pub refuse-one : {why at : ℕ} {ns ms ns′ ns″ ms′ ms″ : List ℕ} {a a′ : ReadAnswer} → Leaves (refused why at) ns ms a ns′ ms′ → Leaves (refused why at) ns ms a′ ns″ ms″ → (a ≡ a′) × (ns′ ≡ ns″) × (ms′ ≡ ms″)
+refuse-one x y = leaves-one x y

@@ -10,7 +10,7 @@ use native.Mathlib.Nat.{le-of-suc-le-suc}
 use lib.Dec.{ltb}
 use lib.ListN.{length, getD, set, take, length-append}
 use Rattle.lists.proofs.Cases.{either}
-use Rattle.store.specs.Rows.{nodeWidth, numberWidth, kindColumn, dimensionColumn, partsColumn, startColumn, lengthColumn, nodeRoom, numberRoom, cell, put, firsts, Row, freshRow, closedRow, partsAt, spanOf, rowAt, spanAt, rowsIn, spansIn, openRow, closeRow, putSpan, closeIn, rowNumbers, spanNumbers, flatRows, flatSpans, zeros, padded, cleared}
+use Rattle.store.specs.Rows.{nodeWidth, numberWidth, kindColumn, dimensionColumn, partsColumn, startColumn, lengthColumn, nodeRoom, numberRoom, cell, put, firsts, Row, row, freshRow, closedRow, partsAt, spanOf, rowAt, spanAt, rowsIn, spansIn, openRow, closeRow, putRow, putSpan, closeIn, rowNumbers, spanNumbers, flatRows, flatSpans, zeros, padded, cleared}
 use Rattle.store.proofs.Cells.{put-in, put-length, put-before, put-here, put-there, snoc, firsts-length, firsts-same, firsts-put, firsts-flat}
 use Rattle.store.proofs.Zeros.{cleared-padded}
 
@@ -38,10 +38,15 @@ module _ (text ms : List ℕ) where
   pub spans-cleared : (m : ℕ) → m ≤ numberRoom ms → cleared ms (m * numberWidth) ≡ padded (flatSpans (spansIn text ms m)) (length ms)
   spans-cleared m h = cleared-padded ms (flatSpans (spansIn text ms m)) (m * numberWidth) (spans-flat m h) (omega arith)
 
+-- a row is opened by putting it whole, with no parts
+pub openRow-puts : (ns : List ℕ) (i k d : ℕ) → openRow ns i k d ≡ putRow ns i k d 0
+unfolding openRow putRow
+openRow-puts ns i k d = refl
+
 -- the puts as stores, one for each column
-pub openRow-in : (ns : List ℕ) (i k d : ℕ) → i < nodeRoom ns → set (set (set ns (i * nodeWidth + kindColumn) k) (i * nodeWidth + dimensionColumn) d) (i * nodeWidth + partsColumn) 0 ≡ openRow ns i k d
-unfolding openRow
-openRow-in ns i k d h = rw (put-in nodeWidth ns i kindColumn (rowNumbers (freshRow k d)) h) (simp unary-clauses)
+pub putRow-in : (ns : List ℕ) (i k d n : ℕ) → i < nodeRoom ns → set (set (set ns (i * nodeWidth + kindColumn) k) (i * nodeWidth + dimensionColumn) d) (i * nodeWidth + partsColumn) n ≡ putRow ns i k d n
+unfolding putRow
+putRow-in ns i k d n h = rw (put-in nodeWidth ns i kindColumn (rowNumbers (row k d n)) h) (simp unary-clauses)
 
 pub putSpan-in : (ms : List ℕ) (i start len : ℕ) → i < numberRoom ms → set (set ms (i * numberWidth + startColumn) start) (i * numberWidth + lengthColumn) len ≡ putSpan ms i start len
 unfolding putSpan
@@ -53,28 +58,39 @@ row-there ns i c vs f j o =
     let is = put-there nodeWidth ns i c vs f j o in
     rw (is 0 (omega arith), is 1 (omega arith), is 2 (omega arith))
 
-module _ (ns : List ℕ) (i k d : ℕ) where
-  pub openRow-length : length (openRow ns i k d) ≡ length ns
-  unfolding openRow
-  openRow-length = put-length nodeWidth ns i kindColumn (rowNumbers (freshRow k d))
+module _ (ns : List ℕ) (i k d parts : ℕ) where
+  pub putRow-length : length (putRow ns i k d parts) ≡ length ns
+  unfolding putRow
+  putRow-length = put-length nodeWidth ns i kindColumn (rowNumbers (row k d parts))
 
-  row-here : i < nodeRoom ns → rowAt (openRow ns i k d) i ≡ freshRow k d
-  unfolding openRow
+  row-here : i < nodeRoom ns → rowAt (putRow ns i k d parts) i ≡ row k d parts
+  unfolding putRow
   row-here h =
-      let is = put-here nodeWidth ns i kindColumn (rowNumbers (freshRow k d)) (omega arith) h in
+      let is = put-here nodeWidth ns i kindColumn (rowNumbers (row k d parts)) (omega arith) h in
       rw (is 0 (omega arith), is 1 (omega arith), is 2 (omega arith))
 
-  others : (j : ℕ) → (j ≡ i → ⊥) → rowAt (openRow ns i k d) j ≡ rowAt ns j
-  unfolding openRow
-  others = row-there ns i kindColumn (rowNumbers (freshRow k d)) (omega arith)
+  others : (j : ℕ) → (j ≡ i → ⊥) → rowAt (putRow ns i k d parts) j ≡ rowAt ns j
+  unfolding putRow
+  others = row-there ns i kindColumn (rowNumbers (row k d parts)) (omega arith)
+
+  pub rows-put : i < nodeRoom ns → rowsIn (putRow ns i k d parts) (i + 1) ≡ rowsIn ns i ++ (row k d parts ∷ [])
+  unfolding rowsIn
+  rows-put h = firsts-put (rowAt ns) (rowAt (putRow ns i k d parts)) i (row k d parts) others (row-here h)
+
+  pub rows-below : (n : ℕ) → n ≤ i → rowsIn (putRow ns i k d parts) n ≡ rowsIn ns n
+  unfolding rowsIn
+  rows-below n h = firsts-same (rowAt ns) (rowAt (putRow ns i k d parts)) n (λ j l. others j (λ z. omega arith))
+
+-- the same of a row that is opened
+module _ (ns : List ℕ) (i k d : ℕ) where
+  pub openRow-length : length (openRow ns i k d) ≡ length ns
+  openRow-length = ap length (openRow-puts ns i k d) ∙ putRow-length ns i k d 0
 
   pub rows-opened : i < nodeRoom ns → rowsIn (openRow ns i k d) (i + 1) ≡ rowsIn ns i ++ (freshRow k d ∷ [])
-  unfolding rowsIn
-  rows-opened h = firsts-put (rowAt ns) (rowAt (openRow ns i k d)) i (freshRow k d) others (row-here h)
+  rows-opened h = ap (λ l. rowsIn l (i + 1)) (openRow-puts ns i k d) ∙ rows-put ns i k d 0 h
 
   pub rows-before : (n : ℕ) → n ≤ i → rowsIn (openRow ns i k d) n ≡ rowsIn ns n
-  unfolding rowsIn
-  rows-before n h = firsts-same (rowAt ns) (rowAt (openRow ns i k d)) n (λ j l. others j (λ z. omega arith))
+  rows-before n h = ap (λ l. rowsIn l n) (openRow-puts ns i k d) ∙ rows-below ns i k d 0 n h
 
 module _ (ms : List ℕ) (i start len : ℕ) where
   pub putSpan-length : length (putSpan ms i start len) ≡ length ms

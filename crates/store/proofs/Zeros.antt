@@ -7,7 +7,7 @@ use native.Mathlib.Omega.{arith}
 use native.Mathlib.Numerals.{add-one}
 use lib.ListN.{length, set, take, length-append, length-take, length-set, length-replicate}
 use lib.Seq.{take-suc-set, take-all, length-take-le}
-use Rattle.store.specs.Rows.{padded, cleared}
+use Rattle.store.specs.Rows.{zeros, padded, cleared}
 
 pub cleared-length : (s : List ℕ) (from : ℕ) → length (cleared s from) ≡ length s
 unfolding cleared
@@ -33,3 +33,7 @@ cleared-padded s flat n e h = rw (e, length-take-le n s h)
 
 pub cleared-all : (s : List ℕ) → cleared s 0 ≡ padded [] (length s)
 cleared-all s = cleared-padded s [] 0 refl (omega arith)
+
+pub cleared-zeros : (s : List ℕ) → cleared s 0 ≡ zeros (length s)
+unfolding cleared
+cleared-zeros s = let z : length s - 0 ≡ length s = omega arith in rw z

@@ -1,12 +1,12 @@
 -- `store::open_row` meets its contract: with room its three stores are `openRow`, and without it nothing changes.
 -- Assumes nothing.
-use mathlib.Core.Path.{sym}
+use mathlib.Core.Path.{sym, _∙_}
 use native.Mathlib.Omega.{arith}
 use borrow.Author.Needs.{needs}
 use lib.ListN.{length-set}
 use Rattle.store.specs.Rows.{openRow}
 use Rattle.store.proofs.Cells.{put-out}
-use Rattle.store.proofs.Rows.{openRow-in}
+use Rattle.store.proofs.Rows.{openRow-puts, putRow-in}
 use Rattle.store.proofs.open_row.Statement.{statement}
 use Rattle.store.proofs.open_row.Tie as tie
 
@@ -47,7 +47,7 @@ same-length : tie.Need-same-length
 same-length c = search needs
 
 returns : tie.Need-returns
-returns c = openRow-in _ _ _ _ (omega arith)
+returns c = putRow-in _ _ _ _ _ (omega arith) ∙ sym (openRow-puts _ _ _ _)
 
 same-length-2 : tie.Need-same-length-2
 same-length-2 c = search needs
