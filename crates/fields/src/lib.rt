@@ -13,6 +13,9 @@ pub const HEAD: usize = 3;
 
 pub const LONGEST: usize = 65_535;
 
+// How many lengths two bytes can say.
+const LENGTHS: usize = 65_536;
+
 const BYTE: u32 = 256;
 
 // What the last three bytes of a count can say: a fourth one fits beside them.
@@ -105,7 +108,7 @@ pub fn put_field(out: &mut [u8], p: Pen, tag: u8, content: &[u8]) -> Pen
     }
     let start = at + HEAD;
     out[at] = tag;
-    put_count(&mut out[at + 1..start], len as u32);
+    put_count(&mut out[at + 1..start], (len % LENGTHS) as u32);
     if len == 1 {
         out[start] = content[0];
         return Pen {
