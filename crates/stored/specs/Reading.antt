@@ -1,8 +1,8 @@
 -- What reading any bytes as a stored tree comes to (document 02, 2026-01), over any version of the form.
 use mathlib.Core.Path.{_≡_}
-use mathlib.Core.Bool.{Bool, cond, not, _&&_}
+use mathlib.Core.Bool.{Bool, true, cond, not, _&&_}
 use mathlib.Core.List.{List, [], _∷_}
-use Prim.Native.Nat.{ℕ, zero, suc, _+_, _*_}
+use Prim.Native.Nat.{ℕ, zero, suc, _+_, _*_, _^_, _≤_, _<_}
 use lib.Dec.{eqb, ltb}
 use lib.ListN.{length, getD, take, drop}
 use Rattle.lists.specs.Lists.{every}
@@ -60,21 +60,27 @@ abbrev pub before : {X : Type 0} → X → Run X → Run X
 before x (faulty at) = faulty at
 before x (whole xs at) = whole (x ∷ xs) at
 
+-- n fields from `at` on, by what is right at a place, what a field there tells, and where the one after it stands
+unfoldable pub fieldsFrom : {X : Type 0} → (ℕ → Bool) → (ℕ → X) → (ℕ → ℕ) → ℕ → ℕ → Run X
+fieldsFrom right told next at zero = whole [] at
+fieldsFrom right told next at (suc n) = cond (right at) (before (told at) (fieldsFrom right told next (next at) n)) (faulty at)
+
 -- the row that a node field tells
 abbrev pub rowTold : ℕ → List ℕ → ℕ → Row
 rowTold w bytes at = row (getD bytes (at + headLength) 0) (getD bytes (at + headLength + 1) 0) (countIn (take w (drop (at + headLength + 2) bytes)))
 
-unfoldable pub nodesFrom : ℕ → List ℕ → ℕ → ℕ → Run Row
-nodesFrom w bytes at zero = whole [] at
-nodesFrom w bytes at (suc n) = cond (isSized nodeTag (nodeSize w) bytes at) (before (rowTold w bytes at) (nodesFrom w bytes (at + headLength + nodeSize w) n)) (faulty at)
+abbrev pub nodeAfter : ℕ → ℕ → ℕ
+nodeAfter w at = at + headLength + nodeSize w
+
+abbrev pub nodesFrom : ℕ → List ℕ → ℕ → ℕ → Run Row
+nodesFrom w bytes = fieldsFrom (isSized nodeTag (nodeSize w) bytes) (rowTold w bytes) (nodeAfter w)
 
 -- "Spans read back point into the stored bytes."
 abbrev pub spanTold : List ℕ → ℕ → Span
 spanTold bytes at = spanOf bytes (at + headLength) (lengthIn bytes at)
 
-unfoldable pub numbersFrom : List ℕ → ℕ → ℕ → Run Span
-numbersFrom bytes at zero = whole [] at
-numbersFrom bytes at (suc n) = cond (isField numberTag bytes at) (before (spanTold bytes at) (numbersFrom bytes (contentEnd bytes at) n)) (faulty at)
+abbrev pub numbersFrom : List ℕ → ℕ → ℕ → Run Span
+numbersFrom bytes = fieldsFrom (isField numberTag bytes) (spanTold bytes) (contentEnd bytes)
 
 -- the place of the number field after n others
 unfoldable pub placeAfter : List ℕ → ℕ → ℕ → ℕ
@@ -126,20 +132,32 @@ numbersWell bytes (whole ss at) = cond (ltb at (length bytes)) (seen.Faulty at) 
 abbrev pub numbersSeen : List ℕ → ℕ → ℕ → Seen
 numbersSeen bytes first count = numbersWell bytes (numbersFrom bytes first count)
 
--- so many fields from here on are right
-pub record RightNodes (w : ℕ) (bytes : List ℕ) (first count : ℕ) : Type 0 where
-  pub its-rows : List Row
+-- what is known once the head has told its counts
+pub record Headed (v : Version) (bytes : List ℕ) (c : Counts) : Type 0 where
+  pub narrow : v .width ≤ 4
+  pub short : length bytes < 2 ^ 32
+  pub told : firstNode (v .width) ≤ length bytes
+  pub counted : c .nodes < 2 ^ 32
+
+-- what its fields come to
+abbrev pub headedOf : Version → ℕ → ℕ → List ℕ → Counts → Outcome
+headedOf v N M bytes c = afterHead (v .width) N M bytes (head.Told c)
+
+-- its node fields were seen, with this answer
+abbrev pub NodesSeen : Version → List ℕ → Counts → Bool → ℕ → Type 0
+NodesSeen v bytes c well middle = nodesSeen (v .width) bytes (firstNode (v .width)) (c .nodes) (c .numbers) ≡ seen.Whole well middle
+
+-- its number fields were seen, and are all well
+pub record NumbersGood (bytes : List ℕ) (middle count : ℕ) : Type 0 where
   pub end : ℕ
-  pub are : nodesFrom w bytes first count ≡ whole its-rows end
+  pub seen : numbersSeen bytes middle count ≡ seen.Whole true end
 
-pub record RightNumbers (bytes : List ℕ) (first count : ℕ) : Type 0 where
-  pub its-spans : List Span
+-- the fields of a run are right
+pub record Right {X : Type 0} (r : Run X) : Type 0 where
+  pub items : List X
   pub end : ℕ
-  pub are : numbersFrom bytes first count ≡ whole its-spans end
+  pub are : r ≡ whole items end
 
--- a slice is filled with what they hold, and zeros after it
-pub record Filled (w : ℕ) (bytes : List ℕ) (first count : ℕ) (ns ns′ : List ℕ) : Type 0 where
-  pub put : (rs : List Row) (end : ℕ) → nodesFrom w bytes first count ≡ whole rs end → ns′ ≡ padded (flatRows rs) (length ns)
-
-pub record FilledNumbers (bytes : List ℕ) (first count : ℕ) (ms ms′ : List ℕ) : Type 0 where
-  pub put : (ss : List Span) (end : ℕ) → numbersFrom bytes first count ≡ whole ss end → ms′ ≡ padded (flatSpans ss) (length ms)
+-- a slice is filled with what they tell, as numbers, and zeros after it
+pub record Filled {X : Type 0} (flat : List X → List ℕ) (r : Run X) (slice slice′ : List ℕ) : Type 0 where
+  pub put : (xs : List X) (end : ℕ) → r ≡ whole xs end → slice′ ≡ padded (flat xs) (length slice)

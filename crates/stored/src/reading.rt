@@ -15,12 +15,13 @@ use shape::CELLS;
 use shape::Entered;
 use store::ReadAnswer;
 ghost use mathlib.Core.Path.{_≡_};
+ghost use mathlib.Core.Bool.{true};
 ghost use Prim.Native.Nat.{_≤_, _<_, _^_};
 ghost use lib.ListN.{length};
-ghost use Rattle.store.specs.Rows.{nodeRoom, numberRoom};
+ghost use Rattle.store.specs.Rows.{nodeRoom, numberRoom, flatRows, flatSpans};
 ghost use Rattle.store.specs.Answers.{Leaves};
-ghost use Rattle.stored.specs.Form.{Known, firstNode};
-ghost use Rattle.stored.specs.Reading.{headIn, nodesSeen, numbersSeen, placeAfter, RightNodes, RightNumbers, Filled, FilledNumbers, readingOf, countsRead};
+ghost use Rattle.stored.specs.Form.{Known};
+ghost use Rattle.stored.specs.Reading.{headIn, nodesFrom, numbersFrom, nodesSeen, numbersSeen, placeAfter, readingOf, headedOf, Headed, NodesSeen, NumbersGood, Right, Filled};
 
 // Where the version stands, and where the counts begin.
 const VERSION_AT: usize = 3;
@@ -144,7 +145,7 @@ fn look_at_numbers(bytes: &[u8], first: usize, count: usize) -> Seen
 
 // The place of the number field after `count` others.
 fn place_after(bytes: &[u8], first: usize, count: usize) -> usize
-    requires { ⌜ RightNumbers (now bytes) first count ⌝ }
+    requires { ⌜ Right (numbersFrom (now bytes) first count) ⌝ }
     ensures { λ r. ⌜ r ≡ placeAfter (now (bytes .entry)) first count ⌝ }
 {
     let mut at = first;
@@ -158,8 +159,8 @@ fn place_after(bytes: &[u8], first: usize, count: usize) -> usize
 }
 
 fn fill_nodes(bytes: &[u8], width: usize, first: usize, count: usize, nodes: &mut [u32])
-    requires { ⌜ (width ≤ 4) × (count ≤ nodeRoom (now nodes)) × RightNodes width (now bytes) first count ⌝ }
-    ensures { λ _. ⌜ Filled width (now (bytes .entry)) first count (now (nodes .entry)) (now (nodes .exit)) ⌝ }
+    requires { ⌜ (width ≤ 4) × (count ≤ nodeRoom (now nodes)) × Right (nodesFrom width (now bytes) first count) ⌝ }
+    ensures { λ _. ⌜ Filled flatRows (nodesFrom width (now (bytes .entry)) first count) (now (nodes .entry)) (now (nodes .exit)) ⌝ }
 {
     let mut at = first;
     let mut i = 0;
@@ -181,8 +182,8 @@ fn fill_nodes(bytes: &[u8], width: usize, first: usize, count: usize, nodes: &mu
 }
 
 fn fill_numbers(bytes: &[u8], first: usize, count: usize, numbers: &mut [u32])
-    requires { ⌜ (length (now bytes) < 2 ^ 32) × (count ≤ numberRoom (now numbers)) × RightNumbers (now bytes) first count ⌝ }
-    ensures { λ _. ⌜ FilledNumbers (now (bytes .entry)) first count (now (numbers .entry)) (now (numbers .exit)) ⌝ }
+    requires { ⌜ (length (now bytes) < 2 ^ 32) × (count ≤ numberRoom (now numbers)) × Right (numbersFrom (now bytes) first count) ⌝ }
+    ensures { λ _. ⌜ Filled flatSpans (numbersFrom (now (bytes .entry)) first count) (now (numbers .entry)) (now (numbers .exit)) ⌝ }
 {
     let mut at = first;
     let mut i = 0;
@@ -205,6 +206,8 @@ fn fill(
     nodes: &mut [u32],
     numbers: &mut [u32],
 ) -> ReadAnswer
+    requires { ⌜ Headed v (now bytes) c × NodesSeen v (now bytes) c true middle × NumbersGood (now bytes) middle (c .numbers) ⌝ }
+    ensures { λ a. ⌜ Leaves (headedOf v (nodeRoom (now (nodes .entry))) (numberRoom (now (numbers .entry))) (now (bytes .entry)) c) (now (nodes .entry)) (now (numbers .entry)) a (now (nodes .exit)) (now (numbers .exit)) ⌝ }
 {
     let first = COUNTS_AT + 2 * v.width;
     let room = store::node_room(nodes);
@@ -237,6 +240,8 @@ fn read_numbers(
     nodes: &mut [u32],
     numbers: &mut [u32],
 ) -> ReadAnswer
+    requires { ⌜ Headed v (now bytes) c × NodesSeen v (now bytes) c well middle ⌝ }
+    ensures { λ a. ⌜ Leaves (headedOf v (nodeRoom (now (nodes .entry))) (numberRoom (now (numbers .entry))) (now (bytes .entry)) c) (now (nodes .entry)) (now (numbers .entry)) a (now (nodes .exit)) (now (numbers .exit)) ⌝ }
 {
     let seen = look_at_numbers(bytes, middle, c.numbers);
     match seen {
@@ -251,6 +256,8 @@ fn read_numbers(
 }
 
 fn read_nodes(bytes: &[u8], v: Version, c: Counts, nodes: &mut [u32], numbers: &mut [u32]) -> ReadAnswer
+    requires { ⌜ Headed v (now bytes) c ⌝ }
+    ensures { λ a. ⌜ Leaves (headedOf v (nodeRoom (now (nodes .entry))) (numberRoom (now (numbers .entry))) (now (bytes .entry)) c) (now (nodes .entry)) (now (numbers .entry)) a (now (nodes .exit)) (now (numbers .exit)) ⌝ }
 {
     let first = COUNTS_AT + 2 * v.width;
     let seen = look_at_nodes(bytes, v.width, first, c.nodes, c.numbers);
