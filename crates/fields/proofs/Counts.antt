@@ -5,10 +5,11 @@ use mathlib.Core.List.{List, [], _∷_, _++_, append-assoc, append-nil}
 use Prim.Native.Nat.{ℕ, zero, suc, _+_, _*_, _/_, _%_, _^_, _≤_, _<_}
 use native.Mathlib.Omega.{arith}
 use native.Mathlib.Numerals.{add-one}
-use native.Mathlib.Nat.{add-zero, add-suc, suc-add, one-mul, zero-add, pow-zero, pow-suc, div-add-mod', div-lt-iff-lt-mul, mod-lt, mul-le-mul-right, mul-assoc}
+use native.Mathlib.Nat.{add-zero, add-suc, suc-add, one-mul, zero-add, pow-zero, pow-suc, div-add-mod', div-lt-iff-lt-mul, mod-lt, mul-le-mul-right, mul-assoc, mod-eq-of-lt, lt-of-lt-of-le, pow-le-pow-right}
 use lib.Arith.{lt-one, digits-div, digits-mod}
 use lib.Dec.{lit<}
 use lib.ListN.{length, getD, take, drop, length-append}
+use lib.Seq.{take-suc}
 use Rattle.lists.specs.Lists.{All}
 use Rattle.fields.specs.Counts.{byte, IsByte, countAfter, countIn, countBytes}
 
@@ -94,3 +95,17 @@ bytes-after w n (b ∷ bs) a =
 pub bytes-of-count : (bs : List ℕ) → All IsByte bs → countBytes (length bs) (countIn bs) ≡ bs
 unfolding countBytes
 bytes-of-count bs a = rw zero-add at (bytes-after 0 0 bs a)
+
+-- ---- of the last four bytes
+-- one byte more, where only what fits is kept
+keep-on : (n b : ℕ) → b < byte → n % 2 ^ 32 % 2 ^ 24 * byte + b ≡ (n * byte + b) % 2 ^ 32
+keep-on n b h = omega arith
+
+pub kept-on : (bytes : List ℕ) (i count b : ℕ) → i < length bytes → getD bytes i 0 ≡ b → b < byte → count ≡ countIn (take i bytes) % 2 ^ 32 → count % 2 ^ 24 * byte + b ≡ countIn (take (i + 1) bytes) % 2 ^ 32
+kept-on bytes i count b h e l z =
+    let t : take (i + 1) bytes ≡ take i bytes ++ (b ∷ []) = rw (add-one i, ← e) (take-suc bytes i 0 h) in
+    rw (z, t, count-snoc (take i bytes) b) (keep-on (countIn (take i bytes)) b l)
+
+-- four bytes say what fits
+pub kept-all : (bs : List ℕ) → All IsByte bs → length bs ≤ 4 → countIn bs % 2 ^ 32 ≡ countIn bs
+kept-all bs a h = mod-eq-of-lt (lt-of-lt-of-le (count-bound bs a) (pow-le-pow-right {n = byte} (lit< tt) h))

@@ -77,7 +77,7 @@ pub fn is_sized(bytes: &[u8], at: usize, tag: u8, length: usize) -> bool
     ensures { λ r. ⌜ r ≡ isSized tag length (now (bytes .entry)) at ⌝ }
 {
     let len = bytes.len();
-    if (len < HEAD) | (LONGEST < length) {
+    if len < HEAD {
         return false;
     }
     if len - HEAD < at {
