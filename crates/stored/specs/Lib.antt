@@ -1,3 +1,4 @@
 pub mod Form
 pub mod Reading
+pub mod Writing
 pub mod Examples
