@@ -32,10 +32,10 @@ fn measure_numbers(numbers: &[u32], limit: usize) -> usize
     requires { ⌜ limit < 2 ^ 32 ⌝ }
     ensures { λ r. ⌜ r ≡ numbersMeasure limit (lengthsIn (now (numbers .entry))) ⌝ }
 {
-    let count = store::number_room(numbers);
+    let number_count = store::number_room(numbers);
     let mut bytes = 0;
     let mut i = 0;
-    while i < count {
+    while i < number_count {
         let length = store::length_at(numbers, i) as usize;
         if LONGEST < length {
             return limit + 1;
