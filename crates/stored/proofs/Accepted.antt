@@ -73,17 +73,22 @@ module _ (w : ℕ) (bytes : List ℕ) (all : All IsByte bytes) where
       node-here at (f .is-right) ∙ ap (λ (l : List ℕ). nodeField w (rowTold w bytes at) ++ l) t ∙ sym (append-assoc (nodeField w (rowTold w bytes at)) (flatMap (nodeField w) (f .tail)) (drop end bytes)) ∙ ap (λ (l : List Row). flatMap (nodeField w) l ++ drop end bytes) (sym (f .all))
 
 -- ---- numbers
+-- each span has the bytes that it tells of
+numbers-own : (bytes : List ℕ) (n at : ℕ) (ss : List Span) (end : ℕ) → numbersFrom bytes at n ≡ whole ss end → All (Own bytes) ss
+unfolding All
+numbers-own bytes zero at ss end e = let b = whole-one (sym (no-field (isField numberTag bytes) (spanTold bytes) (contentEnd bytes) at) ∙ e) in rw (← (b .0)) tt
+numbers-own bytes (suc n) at ss end e = let f = first (isField numberTag bytes) (spanTold bytes) (contentEnd bytes) at n e in rw (f .all) (refl, numbers-own bytes n (contentEnd bytes at) (f .tail) end (f .rest))
+
 module _ (bytes : List ℕ) (all : All IsByte bytes) where
   record NumbersStored (at : ℕ) (ss : List Span) (end : ℕ) : Type 0 where
     stored : drop at bytes ≡ flatMap numberField (spanTexts ss) ++ drop end bytes
     short : every (λ (x : List ℕ). leb (length x) longest) (spanTexts ss) ≡ true
-    own : All (Own bytes) ss
 
   numbers-stored : (n at : ℕ) (ss : List Span) (end : ℕ) → numbersFrom bytes at n ≡ whole ss end → NumbersStored at ss end
-  unfolding flatMap numberField every All
+  unfolding flatMap numberField every
   numbers-stored zero at ss end e =
       let b = whole-one (sym (no-field (isField numberTag bytes) (spanTold bytes) (contentEnd bytes) at) ∙ e) in
-      rw (← (b .0), ← (b .1)) (record { stored = refl; short = refl; own = tt })
+      rw (← (b .0), ← (b .1)) (record { stored = refl; short = refl })
   numbers-stored (suc n) at ss end e =
       let f = first (isField numberTag bytes) (spanTold bytes) (contentEnd bytes) at n e in
       let t = numbers-stored n (contentEnd bytes at) (f .tail) end (f .rest) in
@@ -91,7 +96,6 @@ module _ (bytes : List ℕ) (all : All IsByte bytes) where
       rw (f .all) (record {
         stored = q .put ∙ ap (λ (l : List ℕ). field numberTag (contentIn bytes at) ++ l) (t .stored) ∙ sym (append-assoc (field numberTag (contentIn bytes at)) (flatMap numberField (spanTexts (f .tail))) (drop end bytes));
         short = rw (le-leb (length (contentIn bytes at)) longest (omega (arith, q .length, q .short))) (t .short);
-        own = (refl, t .own);
       })
 
 -- ---- the head
@@ -193,33 +197,42 @@ module _ (v : Version) (N M : ℕ) (bytes : List ℕ) (rs : List Row) (ss : List
       go (head.Refused number place) eh e = let z : _≡_ {A = ℕ} 0 1 = cc in absurd (omega arith)
       go (head.Told c) eh e = after-nodes c eh (nodesFrom (v .width) bytes (firstNode (v .width)) (c .nodes)) refl e
 
--- the tree that accepted bytes are: they are its stored bytes, and it fits
-pub record StoredTree (v : Version) (bytes : List ℕ) (rs : List Row) (ss : List Span) : Type 0 where
+-- the tree that accepted bytes are read to
+pub record ReadTree (bytes : List ℕ) (rs : List Row) (ss : List Span) : Type 0 where
   pub tree : Tree depthLimit
   pub is : treeOf bytes (flatRows rs) (flatSpans ss) ≡ some tree
   pub its-rows : rs ≡ rows depthLimit tree
   pub its-texts : spanTexts ss ≡ texts depthLimit tree
-  pub stored : bytes ≡ storedBytes v tree
-  pub fits : fitsTree v tree ≡ true
 
-pub accepted-stored : (v : Version) → Known v → (N M : ℕ) (bytes : List ℕ) → All IsByte bytes → (rs : List Row) (ss : List Span) → readingOf v N M bytes ≡ filled rs ss → StoredTree v bytes rs ss
+pub accepted-tree : (v : Version) (N M : ℕ) (bytes : List ℕ) (rs : List Row) (ss : List Span) → readingOf v N M bytes ≡ filled rs ss → ReadTree bytes rs ss
+accepted-tree v N M bytes rs ss e =
+    let a = accepts v N M bytes rs ss e in
+    let t = grown bytes (flatRows rs) (flatSpans ss) (a .well) in
+    let its = store-tree bytes (flatRows rs) (flatSpans ss) (t .tree) (t .is) in
+    let own = numbers-own bytes (a .counts .numbers) (a .middle) ss (a .end) (a .numbers) in
+    record { tree = t .tree; is = t .is; its-rows = sym (flat-rows rs) ∙ its .its-rows; its-texts = ap spanTexts (sym (own-spans bytes ss own)) ∙ its .its-texts }
+
+-- the bytes are its stored bytes, and it fits
+pub record StoredTree (v : Version) (bytes : List ℕ) (t : Tree depthLimit) : Type 0 where
+  pub stored : bytes ≡ storedBytes v t
+  pub fits : fitsTree v t ≡ true
+
+pub accepted-stored : (v : Version) → Known v → (N M : ℕ) (bytes : List ℕ) → All IsByte bytes → (rs : List Row) (ss : List Span) (e : readingOf v N M bytes ≡ filled rs ss) → StoredTree v bytes (accepted-tree v N M bytes rs ss e .tree)
 unfolding storedRows
 accepted-stored v known N M bytes all rs ss e =
     let a = accepts v N M bytes rs ss e in
     let h = head-told v known bytes all (a .counts) (a .told) in
     let u = numbers-stored bytes all (a .counts .numbers) (a .middle) ss (a .end) (a .numbers) in
-    let t = grown bytes (flatRows rs) (flatSpans ss) (a .well) in
-    let its = store-tree bytes (flatRows rs) (flatSpans ss) (t .tree) (t .is) in
+    let t = accepted-tree v N M bytes rs ss e in
     let n : length rs ≡ a .counts .nodes = fields-count (isSized nodeTag (nodeSize (v .width)) bytes) (rowTold (v .width) bytes) (nodeAfter (v .width)) (a .counts .nodes) (firstNode (v .width)) rs (a .middle) (a .nodes) in
     let m : length (spanTexts ss) ≡ a .counts .numbers = length-map ss spanText ∙ fields-count (isField numberTag bytes) (spanTold bytes) (contentEnd bytes) (a .counts .numbers) (a .middle) ss (a .end) (a .numbers) in
-    let r : rs ≡ rows depthLimit (t .tree) = sym (flat-rows rs) ∙ its .its-rows in
-    let x : spanTexts ss ≡ texts depthLimit (t .tree) = ap spanTexts (sym (own-spans bytes ss (u .own))) ∙ its .its-texts in
-    let whole-bytes : bytes ≡ storedRows v rs (spanTexts ss) =
+    let all-fields : bytes ≡ storedRows v rs (spanTexts ss) =
     h .stored ∙ ap₂ (λ (i j : ℕ). headField v i j ++ drop (firstNode (v .width)) bytes) (sym n) (sym m)
     ∙ ap (λ (l : List ℕ). headField v (length rs) (length (spanTexts ss)) ++ l) (nodes-stored (v .width) bytes all (a .counts .nodes) (firstNode (v .width)) rs (a .middle) (a .nodes) ∙ ap (λ (l : List ℕ). flatMap (nodeField (v .width)) rs ++ l) (u .stored ∙ rw (drop-of-length-le bytes {i = a .end} (a .last), append-nil))) in
-    let is : bytes ≡ storedBytes v (t .tree) = whole-bytes ∙ ap₂ (storedRows v) r x in
-    let few : length (rows depthLimit (t .tree)) ≤ v .largest = omega (arith, ap length r, n, h .few-nodes) in
-    let some-few : length (texts depthLimit (t .tree)) ≤ v .largest = omega (arith, ap length x, m, h .few-numbers) in
+    let is : bytes ≡ storedBytes v (t .tree) = all-fields ∙ ap₂ (storedRows v) (t .its-rows) (t .its-texts) in
+    let few-rows : length (rows depthLimit (t .tree)) ≤ v .largest = omega (arith, ap length (t .its-rows), n, h .few-nodes) in
+    let few-texts : length (texts depthLimit (t .tree)) ≤ v .largest = omega (arith, ap length (t .its-texts), m, h .few-numbers) in
+    let shape = store-tree bytes (flatRows rs) (flatSpans ss) (t .tree) (t .is) .good .shape in
     let fits : FitsEach v (rows depthLimit (t .tree)) (texts depthLimit (t .tree)) =
-    record { nodes = few; numbers = some-few; parts = parts-fit depthLimit (t .tree) (v .largest) (its .good .shape) few some-few; texts = rw x at (u .short); all = omega (arith, ap length is, h .limited) } in
-    record { tree = t .tree; is = t .is; its-rows = r; its-texts = x; stored = is; fits = each-fits v (rows depthLimit (t .tree)) (texts depthLimit (t .tree)) fits }
+    record { nodes = few-rows; numbers = few-texts; parts = parts-fit depthLimit (t .tree) (v .largest) shape few-rows few-texts; texts = rw (t .its-texts) at (u .short); all = omega (arith, ap length is, h .limited) } in
+    record { stored = is; fits = each-fits v (rows depthLimit (t .tree)) (texts depthLimit (t .tree)) fits }

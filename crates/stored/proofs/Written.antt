@@ -100,7 +100,7 @@ module _ (v : Version) (text nodes numbers : List ℕ) where
     pub small-rows : All SmallRow (allRows nodes)
     small-rows = all-smaller KnownRow SmallRow (λ r k. (omega (arith, k .0), omega (arith, k .1))) (allRows nodes) (rw (is-its .its-rows) (known-rows depthLimit (its .tree) (is-its .good .shape)))
 
-    stored-is : storedOf v text nodes numbers ≡ cond (fitsRows v (allRows nodes) (allTexts text numbers)) (bytes (its-bytes v text nodes numbers)) (refusal doesNotFit)
+    pub stored-is : storedOf v text nodes numbers ≡ cond (fitsRows v (allRows nodes) (allTexts text numbers)) (bytes (its-bytes v text nodes numbers)) (refusal doesNotFit)
     unfolding storedOf
     stored-is = ap (storedTree v) (its .is) ∙ rw (is-its .its-rows, is-its .its-texts)
 
