@@ -6,14 +6,13 @@ use mathlib.Core.List.{List}
 use Prim.Native.Nat.{ℕ, _+_, _-_, _%_, _^_, _≤_, _<_}
 use native.Mathlib.Omega.{arith}
 use lib.Dec.{eqb, leb, ltb}
-use lib.ListN.{length, getD, take, drop, length-take}
+use lib.ListN.{length, getD, take, drop}
 use native.Mathlib.Decide.{decLt}
 use borrow.Author.Tests.{lt-leb, le-leb, lt-ltb, le-ltb, eqb-true}
-use Rattle.lists.specs.Lists.{All}
-use Rattle.fields.specs.Counts.{byte, IsByte, countIn}
+use Rattle.fields.specs.Counts.{byte, countIn}
 use Rattle.fields.specs.declared.Found.the-variants.{Whole, Faulty}
 use Rattle.fields.specs.Fields.{lengthWidth, headLength, lengthIn, contentEnd, isField, fieldAt, isSized}
-use Rattle.fields.proofs.Counts.{all-bytes, all-take, all-drop, kept-all}
+use Rattle.fields.proofs.Counts.{count-read}
 
 and-false : (b : Bool) → (b && false) ≡ false
 and-false true = refl
@@ -81,6 +80,4 @@ module _ (tag : ℕ) (bytes : List ℕ) (at : ℕ) where
 -- the length as the code reads it
 pub length-read : (bytes : List ℕ) (at : ℕ) → ((i : ℕ) → getD bytes i 0 < byte) → countIn (take (at + headLength - (at + 1)) (drop (at + 1) bytes)) % 2 ^ 32 ≡ lengthIn bytes at
 unfolding lengthIn
-length-read bytes at all =
-    let z : at + headLength - (at + 1) ≡ lengthWidth = omega arith in
-    rw z (kept-all (take lengthWidth (drop (at + 1) bytes)) (all-take lengthWidth (drop (at + 1) bytes) (all-drop (at + 1) bytes (all-bytes bytes all))) (simp length-take (omega arith)))
+length-read bytes at all = count-read bytes all (at + 1) (at + headLength) lengthWidth (omega arith) (omega arith)

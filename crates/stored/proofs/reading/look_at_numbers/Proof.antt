@@ -1,0 +1,100 @@
+use Rattle.stored.proofs.reading.look_at_numbers.Statement.{statement}
+use Rattle.stored.proofs.reading.look_at_numbers.Tie as tie
+use Rattle.stored.proofs.reading.look_at_numbers.Reads as reads
+use Rattle.stored.proofs.reading.look_at_numbers.Lts as lts
+use Rattle.fields.proofs.field_at.Reads as field-at-reads
+use Rattle.number.proofs.is_lexeme.Reads as is-lexeme-reads
+use Rattle.number.proofs.is_plain.Reads as is-plain-reads
+
+abbrev Inv-loop : tie.InvT-loop
+Inv-loop bytes first count good₀ at₀ i₀ good at i = ?
+
+abbrev μ-loop : tie.MeasureT-loop
+μ-loop bytes first count good₀ at₀ i₀ good at i = ?
+
+-- src/reading.rt:127:5
+loop-holds : tie.Need-loop-holds Inv-loop μ-loop
+loop-holds c = ?
+
+-- src/reading.rt:128:13
+field-at-requires : tie.Need-field-at-requires Inv-loop μ-loop
+field-at-requires c κs = ?
+
+-- src/reading.rt:129:26
+enum-known-found : tie.Need-enum-known-found Inv-loop μ-loop
+enum-known-found c = ?
+
+-- src/reading.rt:130:13
+enum-told : tie.Need-enum-told Inv-loop μ-loop
+enum-told c = ?
+
+-- src/reading.rt:130:13
+returns : tie.Need-returns Inv-loop μ-loop
+returns c = ?
+
+-- src/reading.rt:132:21
+add-start : tie.Need-add-start Inv-loop μ-loop
+add-start c = ?
+
+-- src/reading.rt:133:20
+sub-text : tie.Need-sub-text Inv-loop μ-loop
+sub-text c = ?
+
+-- src/reading.rt:133:20
+part-text-start : tie.Need-part-text-start Inv-loop μ-loop
+part-text-start c = ?
+
+-- src/reading.rt:133:20
+part-text-end : tie.Need-part-text-end Inv-loop μ-loop
+part-text-end c = ?
+
+-- src/reading.rt:134:13
+is-plain-requires : tie.Need-is-plain-requires Inv-loop μ-loop
+is-plain-requires c κs = ?
+
+-- src/reading.rt:135:27
+is-lexeme-requires : tie.Need-is-lexeme-requires Inv-loop μ-loop
+is-lexeme-requires c κs = ?
+
+-- src/reading.rt:138:9
+add-i : tie.Need-add-i Inv-loop μ-loop
+add-i c = ?
+
+-- src/reading.rt:127:5
+loop-less : tie.Need-loop-less Inv-loop μ-loop
+loop-less c = ?
+
+-- src/reading.rt:127:5
+loop-again : tie.Need-loop-again Inv-loop μ-loop
+loop-again c = ?
+
+-- src/reading.rt:141:9
+returns-2 : tie.Need-returns-2 Inv-loop μ-loop
+returns-2 c = ?
+
+-- src/reading.rt:121:1
+returns-3 : tie.Need-returns-3 Inv-loop μ-loop
+returns-3 c = ?
+
+pub look-at-numbers-spec : {M : Type 1} → statement M
+look-at-numbers-spec =
+    tie.close
+    (tie.spec
+    Inv-loop
+    μ-loop
+    loop-holds
+    field-at-requires
+    enum-known-found
+    enum-told
+    returns
+    add-start
+    sub-text
+    part-text-start
+    part-text-end
+    is-plain-requires
+    is-lexeme-requires
+    add-i
+    loop-less
+    loop-again
+    returns-2
+    returns-3)
