@@ -2,13 +2,13 @@
 -- Assumes nothing.
 use mathlib.Core.Path.{_≡_, refl, sym, ap, _∙_}
 use mathlib.Core.List.{List, [], _∷_, _++_, append-assoc, append-nil}
-use Prim.Native.Nat.{ℕ, zero, suc, _+_, _*_, _/_, _%_, _^_, _≤_, _<_}
+use Prim.Native.Nat.{ℕ, zero, suc, _+_, _-_, _*_, _/_, _%_, _^_, _≤_, _<_}
 use native.Mathlib.Omega.{arith}
 use native.Mathlib.Numerals.{add-one}
 use native.Mathlib.Nat.{add-zero, add-suc, suc-add, one-mul, zero-add, pow-zero, pow-suc, div-add-mod', div-lt-iff-lt-mul, mod-lt, mul-le-mul-right, mul-assoc, mod-eq-of-lt, lt-of-lt-of-le, pow-le-pow-right}
 use lib.Arith.{lt-one, digits-div, digits-mod}
 use lib.Dec.{lit<}
-use lib.ListN.{length, getD, take, drop, length-append}
+use lib.ListN.{length, getD, take, drop, length-append, length-take}
 use lib.Seq.{take-suc}
 use Rattle.lists.specs.Lists.{All}
 use Rattle.fields.specs.Counts.{byte, IsByte, countAfter, countIn, countBytes}
@@ -109,3 +109,7 @@ kept-on bytes i count b h e l z =
 -- four bytes say what fits
 pub kept-all : (bs : List ℕ) → All IsByte bs → length bs ≤ 4 → countIn bs % 2 ^ 32 ≡ countIn bs
 kept-all bs a h = mod-eq-of-lt (lt-of-lt-of-le (count-bound bs a) (pow-le-pow-right {n = byte} (lit< tt) h))
+
+-- the count that a part of lent bytes says
+pub count-read : (bytes : List ℕ) → ((i : ℕ) → getD bytes i 0 < byte) → (start end w : ℕ) → end - start ≡ w → w ≤ 4 → countIn (take (end - start) (drop start bytes)) % 2 ^ 32 ≡ countIn (take w (drop start bytes))
+count-read bytes all start end w e h = rw e (kept-all (take w (drop start bytes)) (all-take w (drop start bytes) (all-drop start bytes (all-bytes bytes all))) (simp length-take (omega arith)))

@@ -6,14 +6,13 @@ use mathlib.Core.List.{List}
 use Prim.Native.Nat.{ℕ, _+_, _-_, _%_, _^_, _≤_, _<_}
 use native.Mathlib.Omega.{arith}
 use lib.Dec.{eqb, leb, ltb}
-use lib.ListN.{length, getD, take, drop, length-take}
+use lib.ListN.{length, getD, take, drop}
 use native.Mathlib.Decide.{decLt}
 use borrow.Author.Tests.{lt-leb, le-leb, lt-ltb, le-ltb, eqb-true}
-use Rattle.lists.specs.Lists.{All}
-use Rattle.fields.specs.Counts.{byte, IsByte, countIn}
+use Rattle.fields.specs.Counts.{byte, countIn}
 use Rattle.fields.specs.declared.Found.the-variants.{Whole, Faulty}
 use Rattle.fields.specs.Fields.{lengthWidth, headLength, lengthIn, contentEnd, isField, fieldAt, isSized}
-use Rattle.fields.proofs.Counts.{all-bytes, all-take, all-drop, kept-all}
+use Rattle.fields.proofs.Counts.{count-read}
 
 and-false : (b : Bool) → (b && false) ≡ false
 and-false true = refl
@@ -81,6 +80,21 @@ module _ (tag : ℕ) (bytes : List ℕ) (at : ℕ) where
 -- the length as the code reads it
 pub length-read : (bytes : List ℕ) (at : ℕ) → ((i : ℕ) → getD bytes i 0 < byte) → countIn (take (at + headLength - (at + 1)) (drop (at + 1) bytes)) % 2 ^ 32 ≡ lengthIn bytes at
 unfolding lengthIn
-length-read bytes at all =
-    let z : at + headLength - (at + 1) ≡ lengthWidth = omega arith in
-    rw z (kept-all (take lengthWidth (drop (at + 1) bytes)) (all-take lengthWidth (drop (at + 1) bytes) (all-drop (at + 1) bytes (all-bytes bytes all))) (simp length-take (omega arith)))
+length-read bytes at all = count-read bytes all (at + 1) (at + headLength) lengthWidth (omega arith) (omega arith)
+
+-- ---- what an answer says
+pub whole-field : (tag : ℕ) (bytes : List ℕ) (at : ℕ) {end : ℕ} → fieldAt tag bytes at ≡ Whole end → (isField tag bytes at ≡ true) × (contentEnd bytes at ≡ end)
+unfolding fieldAt
+whole-field tag bytes at {end} e = go (isField tag bytes at) e
+  where
+    go : (b : Bool) → cond b (Whole (contentEnd bytes at)) Faulty ≡ Whole end → (b ≡ true) × (contentEnd bytes at ≡ end)
+    go true z = (refl, cc)
+    go false z = let y : _≡_ {A = ℕ} 0 1 = cc in absurd (omega arith)
+
+pub faulty-field : (tag : ℕ) (bytes : List ℕ) (at : ℕ) → fieldAt tag bytes at ≡ Faulty → isField tag bytes at ≡ false
+unfolding fieldAt
+faulty-field tag bytes at e = go (isField tag bytes at) e
+  where
+    go : (b : Bool) → cond b (Whole (contentEnd bytes at)) Faulty ≡ Faulty → b ≡ false
+    go true z = let y : _≡_ {A = ℕ} 0 1 = cc in absurd (omega arith)
+    go false z = refl

@@ -1,0 +1,91 @@
+use Rattle.stored.proofs.reading.place_after.Statement.{statement}
+use Rattle.stored.proofs.reading.place_after.Tie as tie
+use Rattle.stored.proofs.reading.place_after.Reads as reads
+use Rattle.stored.proofs.reading.place_after.Lts as lts
+use Rattle.fields.proofs.count_in.Reads as count-in-reads
+use mathlib.Core.Path.{_≡_, ap, _∙_}
+use Prim.Native.Nat.{_+_, _-_, _≤_}
+use native.Mathlib.Omega.{arith}
+use lib.ListN.{length}
+use borrow.Author.Needs.{needs}
+use Rattle.fields.specs.Fields.{lengthIn, contentEnd}
+use Rattle.fields.proofs.Looks.{length-read}
+use Rattle.stored.proofs.Fills.{Placing, placing-begins, placing-room, placing-on, placing-ends}
+
+abbrev Inv-loop : tie.InvT-loop
+Inv-loop bytes first count at₀ i₀ at i = Placing bytes first count at i
+
+abbrev μ-loop : tie.MeasureT-loop
+μ-loop bytes first count at₀ i₀ at i = count - i
+
+-- src/reading.rt:153:5
+loop-holds : tie.Need-loop-holds Inv-loop μ-loop
+loop-holds c = placing-begins _ _ _ (c .before .pre)
+
+-- src/reading.rt:154:21
+add-start : tie.Need-add-start Inv-loop μ-loop
+add-start c = omega (arith, placing-room (c .before .loop .inv) (c .loop-test .taken))
+
+-- src/reading.rt:155:47
+add-count-in : tie.Need-add-count-in Inv-loop μ-loop
+add-count-in c = omega (arith, placing-room (c .before .loop .inv) (c .loop-test .taken))
+
+-- src/reading.rt:155:40
+sub-count-in : tie.Need-sub-count-in Inv-loop μ-loop
+sub-count-in c = search needs
+
+-- src/reading.rt:155:40
+part-count-in-start : tie.Need-part-count-in-start Inv-loop μ-loop
+part-count-in-start c = search needs
+
+-- src/reading.rt:155:40
+part-count-in-end : tie.Need-part-count-in-end Inv-loop μ-loop
+part-count-in-end c = omega (arith, placing-room (c .before .loop .inv) (c .loop-test .taken))
+
+-- src/reading.rt:155:23
+count-in-requires : tie.Need-count-in-requires Inv-loop μ-loop
+count-in-requires c κs = search needs
+
+-- src/reading.rt:155:23
+cast-at : tie.Need-cast-at Inv-loop μ-loop
+cast-at c = search needs
+
+-- src/reading.rt:155:14
+add-at : tie.Need-add-at Inv-loop μ-loop
+add-at c = omega (arith, placing-room (c .before .before .before .loop .inv) (c .before .before .loop-test .taken), c .count-in .ensures ∙ length-read _ (c .before .before .before .loop .at) (λ i. c .before .before .before .before .shared-slice-known .given i .fits))
+
+-- src/reading.rt:156:9
+add-i : tie.Need-add-i Inv-loop μ-loop
+add-i c = search needs
+
+-- src/reading.rt:153:5
+loop-less : tie.Need-loop-less Inv-loop μ-loop
+loop-less c = search needs
+
+-- src/reading.rt:153:5
+loop-again : tie.Need-loop-again Inv-loop μ-loop
+loop-again c = placing-on (c .before .before .before .loop .inv) (c .before .before .loop-test .taken) (ap (λ n. c .before .before .before .loop .at + 3 + n) (c .count-in .ensures ∙ length-read _ (c .before .before .before .loop .at) (λ i. c .before .before .before .before .shared-slice-known .given i .fits)))
+
+-- src/reading.rt:147:1
+returns : tie.Need-returns Inv-loop μ-loop
+returns c = placing-ends (c .before .loop .inv) (c .loop-test .left)
+
+pub place-after-spec : {M : Type 1} → statement M
+place-after-spec =
+    tie.close
+    (tie.spec
+    Inv-loop
+    μ-loop
+    loop-holds
+    add-start
+    add-count-in
+    sub-count-in
+    part-count-in-start
+    part-count-in-end
+    count-in-requires
+    cast-at
+    add-at
+    add-i
+    loop-less
+    loop-again
+    returns)
