@@ -81,3 +81,20 @@ module _ (tag : ℕ) (bytes : List ℕ) (at : ℕ) where
 pub length-read : (bytes : List ℕ) (at : ℕ) → ((i : ℕ) → getD bytes i 0 < byte) → countIn (take (at + headLength - (at + 1)) (drop (at + 1) bytes)) % 2 ^ 32 ≡ lengthIn bytes at
 unfolding lengthIn
 length-read bytes at all = count-read bytes all (at + 1) (at + headLength) lengthWidth (omega arith) (omega arith)
+
+-- ---- what an answer says
+pub whole-field : (tag : ℕ) (bytes : List ℕ) (at : ℕ) {end : ℕ} → fieldAt tag bytes at ≡ Whole end → (isField tag bytes at ≡ true) × (contentEnd bytes at ≡ end)
+unfolding fieldAt
+whole-field tag bytes at {end} e = go (isField tag bytes at) e
+  where
+    go : (b : Bool) → cond b (Whole (contentEnd bytes at)) Faulty ≡ Whole end → (b ≡ true) × (contentEnd bytes at ≡ end)
+    go true z = (refl, cc)
+    go false z = let y : _≡_ {A = ℕ} 0 1 = cc in absurd (omega arith)
+
+pub faulty-field : (tag : ℕ) (bytes : List ℕ) (at : ℕ) → fieldAt tag bytes at ≡ Faulty → isField tag bytes at ≡ false
+unfolding fieldAt
+faulty-field tag bytes at e = go (isField tag bytes at) e
+  where
+    go : (b : Bool) → cond b (Whole (contentEnd bytes at)) Faulty ≡ Faulty → b ≡ false
+    go true z = let y : _≡_ {A = ℕ} 0 1 = cc in absurd (omega arith)
+    go false z = refl
