@@ -1,0 +1,4 @@
+pub mod Records
+pub mod Fronts
+pub mod Places
+pub mod Pieces
