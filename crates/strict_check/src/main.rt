@@ -11,8 +11,8 @@ use console::read_input;
 use printing::flush;
 use printing::put;
 use printing::put_spaced;
-use strict::StrictAnswer;
 use store::ReadAnswer;
+use strict::StrictAnswer;
 
 const OUTPUT_BYTES: usize = 64;
 

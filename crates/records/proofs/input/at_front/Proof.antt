@@ -1,24 +1,18 @@
+-- `at_front` meets its contract: the unread bytes are those that the buffer has.
+-- Assumes nothing.
 use borrow.Author.Needs.{needs}
 use Rattle.records.proofs.input.at_front.Statement.{statement}
 use Rattle.records.proofs.input.at_front.Tie as tie
-use Rattle.records.proofs.input.at_front.Reads as reads
-use Rattle.records.proofs.input.at_front.Lts as lts
-use Rattle.printing.proofs.least.Reads as least-reads
-use Rattle.records.proofs.input.front_in.Reads as front-in-reads
 
--- src/input.rt:65:9
 least-requires : tie.Need-least-requires
 least-requires c κs = search needs
 
--- src/input.rt:66:9
 least-requires-2 : tie.Need-least-requires-2
 least-requires-2 c κs = search needs
 
--- src/input.rt:67:5
 front-in-requires : tie.Need-front-in-requires
 front-in-requires c κs = search needs
 
--- src/input.rt:61:1
 returns : tie.Need-returns
 returns c = (rw (c .before .least2 .ensures .1 .1, c .before .before .least .ensures .1 .1) at (c .front-in .ensures .0), c .front-in .ensures .1)
 

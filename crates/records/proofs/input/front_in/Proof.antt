@@ -1,57 +1,44 @@
+-- `front_in` meets its contract: too few bytes for a count, a record that the buffer lacks room for, one that is cut, a whole one.
+-- Assumes nothing.
 use borrow.Author.Needs.{needs}
 use Rattle.records.proofs.input.front_in.Statement.{statement}
 use Rattle.records.proofs.input.front_in.Tie as tie
-use Rattle.records.proofs.input.front_in.Reads as reads
-use Rattle.records.proofs.input.front_in.Lts as lts
-use Rattle.records.proofs.parts.field.Reads as field-reads
 use Rattle.records.proofs.Fronts.{front-short, front-large, front-cut, front-whole}
 use native.Mathlib.Omega.{arith}
 
--- src/input.rt:47:8
 sub-if1 : tie.Need-sub-if1
 sub-if1 c = search needs
 
--- src/input.rt:48:9
 returns : tie.Need-returns
 returns c = (front-short _ _ _ (c .if1 .taken), tt)
 
--- src/input.rt:50:17
 add-start : tie.Need-add-start
 add-start c = search needs
 
--- src/input.rt:51:9
 field-requires : tie.Need-field-requires
 field-requires c κs = search needs
 
--- src/input.rt:52:8
 sub-if2 : tie.Need-sub-if2
 sub-if2 c = search needs
 
--- src/input.rt:53:41
 sub-t9 : tie.Need-sub-t9
 sub-t9 c = search needs
 
--- src/input.rt:53:32
 sub-t10 : tie.Need-sub-t10
 sub-t10 c = search needs
 
--- src/input.rt:53:9
 returns-2 : tie.Need-returns-2
 returns-2 c = (front-large _ _ _ (c .before .field .ensures .0) (c .before .before .if1 .left) (c .if2 .taken), tt)
 
--- src/input.rt:55:8
 sub-if3 : tie.Need-sub-if3
 sub-if3 c = search needs
 
--- src/input.rt:56:9
 returns-3 : tie.Need-returns-3
 returns-3 c = (front-cut _ _ _ (c .before .before .field .ensures .0) (c .before .before .before .if1 .left) (c .before .if2 .left) (c .if3 .taken), tt)
 
--- src/input.rt:58:25
 add-t8 : tie.Need-add-t8
 add-t8 c = search needs
 
--- src/input.rt:41:1
 returns-4 : tie.Need-returns-4
 returns-4 c = (front-whole _ _ _ (c .before .before .field .ensures .0) (c .before .before .before .if1 .left) (c .before .if2 .left) (c .if3 .left), search needs)
 

@@ -1,82 +1,61 @@
+-- `refill` meets its contract: the unread bytes are moved, and what is read stands behind them.
+-- Assumes nothing.
 use borrow.Author.Needs.{needs}
 use Rattle.records.proofs.input.refill.Statement.{statement}
 use Rattle.records.proofs.input.refill.Tie as tie
-use Rattle.records.proofs.input.refill.Reads as reads
-use Rattle.records.proofs.input.refill.Lts as lts
-use Rattle.io.proofs.count.Reads as count-reads
-use Rattle.libc.proofs.read.Reads as read-reads
-use Rattle.printing.proofs.least.Reads as least-reads
-use Rattle.records.proofs.input.shift.Reads as shift-reads
 use mathlib.Core.Path.{refl}
 use native.Mathlib.Omega.{arith}
 use denote.Ref.{now}
 use Rattle.records.proofs.Places.{refilled}
 
--- src/input.rt:91:9
 least-requires : tie.Need-least-requires
 least-requires c κs = search needs
 
--- src/input.rt:92:9
 least-requires-2 : tie.Need-least-requires-2
 least-requires-2 c κs = search needs
 
--- src/input.rt:93:5
 shift-requires : tie.Need-shift-requires
 shift-requires c κs = search needs
 
--- src/input.rt:94:16
 sub-left : tie.Need-sub-left
 sub-left c = search needs
 
--- src/input.rt:95:40
 sub-read : tie.Need-sub-read
 sub-read c = search needs
 
--- src/input.rt:95:40
 part-read-start : tie.Need-part-read-start
 part-read-start c = search needs
 
--- src/input.rt:95:40
 part-read-end : tie.Need-part-read-end
 part-read-end c = search needs
 
--- src/input.rt:95:9
 read-requires : tie.Need-read-requires
 read-requires c κs = search needs
 
--- src/input.rt:96:32
 sub-count : tie.Need-sub-count
 sub-count c = search needs
 
--- src/input.rt:96:32
 part-count-start : tie.Need-part-count-start
 part-count-start c = search needs
 
--- src/input.rt:96:32
 part-count-end : tie.Need-part-count-end
 part-count-end c = search needs
 
--- src/input.rt:96:9
 count-requires : tie.Need-count-requires
 count-requires c κs = search needs
 
--- src/input.rt:97:16
 add-have : tie.Need-add-have
 add-have c = search needs
 
--- src/input.rt:98:9
 least-requires-3 : tie.Need-least-requires-3
 least-requires-3 c κs = search needs
 
--- src/input.rt:101:14
 sub-s : tie.Need-sub-s
 sub-s c = search needs
 
--- src/input.rt:88:1
 same-length : tie.Need-same-length
 same-length c = search needs
 
--- src/input.rt:88:1
 returns : tie.Need-returns
 returns c =
     let given = c .before .before .before .before .before .before .before .before .before .before .before .before .before .before .before .before .args in

@@ -1,10 +1,7 @@
+-- `bytes_left` meets its contract. The loop's invariant: what is counted, with what is left to count, is the whole.
+-- Assumes nothing.
 use Rattle.records.proofs.lines.bytes_left.Statement.{statement}
 use Rattle.records.proofs.lines.bytes_left.Tie as tie
-use Rattle.records.proofs.lines.bytes_left.Reads as reads
-use Rattle.records.proofs.lines.bytes_left.Lts as lts
-use Rattle.printing.proofs.least.Reads as least-reads
-use Rattle.records.proofs.lines.one_unless_zero.Reads as one-unless-zero-reads
-use Rattle.records.proofs.lines.wide.Reads as wide-reads
 use Prim.Native.Nat.{_+_, _-_, _≤_}
 use mathlib.Core.Path.{_≡_}
 use native.Mathlib.Omega.{arith}
@@ -19,43 +16,33 @@ Inv-loop output from i₀ count₀ i count = (count + leftOver output i ≡ left
 abbrev μ-loop : tie.MeasureT-loop
 μ-loop output from i₀ count₀ i count = length output - i
 
--- src/lines.rt:74:9
 least-requires : tie.Need-least-requires Inv-loop μ-loop
 least-requires c κs = search needs
 
--- src/lines.rt:76:5
 loop-holds : tie.Need-loop-holds Inv-loop μ-loop
 loop-holds c = (left-first _ _ _ (c .least .ensures .1 .1), search needs, search needs)
 
--- src/lines.rt:77:39
 shared-slice-read-wide : tie.Need-shared-slice-read-wide Inv-loop μ-loop
 shared-slice-read-wide c = search needs
 
--- src/lines.rt:77:34
 wide-requires : tie.Need-wide-requires Inv-loop μ-loop
 wide-requires c κs = search needs
 
--- src/lines.rt:77:18
 one-unless-zero-requires : tie.Need-one-unless-zero-requires Inv-loop μ-loop
 one-unless-zero-requires c κs = search needs
 
--- src/lines.rt:77:9
 add-count : tie.Need-add-count Inv-loop μ-loop
 add-count c = search needs
 
--- src/lines.rt:78:9
 add-i : tie.Need-add-i Inv-loop μ-loop
 add-i c = search needs
 
--- src/lines.rt:76:5
 loop-less : tie.Need-loop-less Inv-loop μ-loop
 loop-less c = search needs
 
--- src/lines.rt:76:5
 loop-again : tie.Need-loop-again Inv-loop μ-loop
 loop-again c = (rw (c .one-unless-zero .ensures .0, c .before .wide .ensures) (left-on _ _ _ _ (c .before .before .before .loop-test .taken) (c .before .before .before .before .loop .inv .0)), search needs, search needs)
 
--- src/lines.rt:71:1
 returns : tie.Need-returns Inv-loop μ-loop
 returns c = left-all _ _ _ _ (c .loop-test .left) (c .before .loop .inv .0)
 

@@ -1,9 +1,7 @@
+-- `places_left` meets its contract. The loop's invariant: what is counted, with what is left to count, is the whole.
+-- Assumes nothing.
 use Rattle.records.proofs.lines.places_left.Statement.{statement}
 use Rattle.records.proofs.lines.places_left.Tie as tie
-use Rattle.records.proofs.lines.places_left.Reads as reads
-use Rattle.records.proofs.lines.places_left.Lts as lts
-use Rattle.printing.proofs.least.Reads as least-reads
-use Rattle.records.proofs.lines.one_unless_zero.Reads as one-unless-zero-reads
 use Prim.Native.Nat.{_+_, _-_, _≤_}
 use mathlib.Core.Path.{_≡_}
 use native.Mathlib.Omega.{arith}
@@ -18,43 +16,33 @@ Inv-loop slice from i₀ count₀ i count = (count + leftOver slice i ≡ leftOv
 abbrev μ-loop : tie.MeasureT-loop
 μ-loop slice from i₀ count₀ i count = length slice - i
 
--- src/lines.rt:55:9
 least-requires : tie.Need-least-requires Inv-loop μ-loop
 least-requires c κs = search needs
 
--- src/lines.rt:57:5
 loop-holds : tie.Need-loop-holds Inv-loop μ-loop
 loop-holds c = (left-first _ _ _ (c .least .ensures .1 .1), search needs, search needs)
 
--- src/lines.rt:58:34
 mul-one-unless-zero : tie.Need-mul-one-unless-zero Inv-loop μ-loop
 mul-one-unless-zero c = search needs
 
--- src/lines.rt:58:34
 shared-slice-read-one-unless-zero : tie.Need-shared-slice-read-one-unless-zero Inv-loop μ-loop
 shared-slice-read-one-unless-zero c = search needs
 
--- src/lines.rt:58:18
 one-unless-zero-requires : tie.Need-one-unless-zero-requires Inv-loop μ-loop
 one-unless-zero-requires c κs = search needs
 
--- src/lines.rt:58:9
 add-count : tie.Need-add-count Inv-loop μ-loop
 add-count c = search needs
 
--- src/lines.rt:59:9
 add-i : tie.Need-add-i Inv-loop μ-loop
 add-i c = search needs
 
--- src/lines.rt:57:5
 loop-less : tie.Need-loop-less Inv-loop μ-loop
 loop-less c = search needs
 
--- src/lines.rt:57:5
 loop-again : tie.Need-loop-again Inv-loop μ-loop
 loop-again c = (rw (c .one-unless-zero .ensures .0) (left-on _ _ _ _ (c .before .before .loop-test .taken) (c .before .before .before .loop .inv .0)), search needs, search needs)
 
--- src/lines.rt:51:1
 returns : tie.Need-returns Inv-loop μ-loop
 returns c = (left-all _ _ _ _ (c .loop-test .left) (c .before .loop .inv .0), search needs)
 

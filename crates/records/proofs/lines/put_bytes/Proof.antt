@@ -1,9 +1,7 @@
+-- `put_bytes` meets its contract. The loop's invariant: so many bytes are put.
+-- Assumes nothing.
 use Rattle.records.proofs.lines.put_bytes.Statement.{statement}
 use Rattle.records.proofs.lines.put_bytes.Tie as tie
-use Rattle.records.proofs.lines.put_bytes.Reads as reads
-use Rattle.records.proofs.lines.put_bytes.Lts as lts
-use Rattle.printing.proofs.least.Reads as least-reads
-use Rattle.records.proofs.lines.put_byte.Reads as put-byte-reads
 use Prim.Native.Nat.{_-_, _≤_}
 use mathlib.Core.Path.{_≡_, refl}
 use native.Mathlib.Omega.{arith}
@@ -19,39 +17,30 @@ Inv-loop out₀ at output used last end₀ i₀ out end i = (buffer out end ≡ 
 abbrev μ-loop : tie.MeasureT-loop
 μ-loop out₀ at output used last end₀ i₀ out end i = last - i
 
--- src/lines.rt:150:9
 least-requires : tie.Need-least-requires Inv-loop μ-loop
 least-requires c κs = search needs
 
--- src/lines.rt:153:5
 loop-holds : tie.Need-loop-holds Inv-loop μ-loop
 loop-holds c = (each-none _ _ _, search needs, search needs)
 
--- src/lines.rt:154:34
 shared-slice-read-put-byte : tie.Need-shared-slice-read-put-byte Inv-loop μ-loop
 shared-slice-read-put-byte c = search needs
 
--- src/lines.rt:154:9
 put-byte-requires : tie.Need-put-byte-requires Inv-loop μ-loop
 put-byte-requires c κs = search needs
 
--- src/lines.rt:155:9
 add-i : tie.Need-add-i Inv-loop μ-loop
 add-i c = search needs
 
--- src/lines.rt:153:5
 loop-less : tie.Need-loop-less Inv-loop μ-loop
 loop-less c = search needs
 
--- src/lines.rt:153:5
 loop-again : tie.Need-loop-again Inv-loop μ-loop
 loop-again c = (each-on _ _ _ _ (omega arith) (c .before .before .before .before .before .before .loop .inv .0) (c .before .before .put-byte .ensures), search needs, search needs)
 
--- src/lines.rt:147:1
 same-length : tie.Need-same-length Inv-loop μ-loop
 same-length c = c .before .loop .inv .1
 
--- src/lines.rt:147:1
 returns : tie.Need-returns Inv-loop μ-loop
 returns c = each-all _ _ _ _ _ _ (c .before .before .least .ensures .1 .1) (c .before .loop .inv .2) (c .loop-test .left) (c .before .loop .inv .0)
 

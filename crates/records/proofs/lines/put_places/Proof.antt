@@ -1,10 +1,7 @@
+-- `put_places` meets its contract. The loop's invariant: so many places are put.
+-- Assumes nothing.
 use Rattle.records.proofs.lines.put_places.Statement.{statement}
 use Rattle.records.proofs.lines.put_places.Tie as tie
-use Rattle.records.proofs.lines.put_places.Reads as reads
-use Rattle.records.proofs.lines.put_places.Lts as lts
-use Rattle.printing.proofs.least.Reads as least-reads
-use Rattle.printing.proofs.put_spaced.Reads as put-spaced-reads
-use Rattle.records.proofs.lines.size.Reads as size-reads
 use Prim.Native.Nat.{_-_, _≤_}
 use mathlib.Core.Path.{_≡_, refl}
 use native.Mathlib.Omega.{arith}
@@ -20,47 +17,36 @@ Inv-loop out₀ at slice used last end₀ i₀ out end i = (buffer out end ≡ p
 abbrev μ-loop : tie.MeasureT-loop
 μ-loop out₀ at slice used last end₀ i₀ out end i = last - i
 
--- src/lines.rt:99:9
 least-requires : tie.Need-least-requires Inv-loop μ-loop
 least-requires c κs = search needs
 
--- src/lines.rt:102:5
 loop-holds : tie.Need-loop-holds Inv-loop μ-loop
 loop-holds c = (each-none _ _ _, search needs, search needs)
 
--- src/lines.rt:103:41
 mul-size : tie.Need-mul-size Inv-loop μ-loop
 mul-size c = search needs
 
--- src/lines.rt:103:41
 shared-slice-read-size : tie.Need-shared-slice-read-size Inv-loop μ-loop
 shared-slice-read-size c = search needs
 
--- src/lines.rt:103:36
 size-requires : tie.Need-size-requires Inv-loop μ-loop
 size-requires c κs = search needs
 
--- src/lines.rt:103:9
 put-spaced-requires : tie.Need-put-spaced-requires Inv-loop μ-loop
 put-spaced-requires c κs = search needs
 
--- src/lines.rt:104:9
 add-i : tie.Need-add-i Inv-loop μ-loop
 add-i c = search needs
 
--- src/lines.rt:102:5
 loop-less : tie.Need-loop-less Inv-loop μ-loop
 loop-less c = search needs
 
--- src/lines.rt:102:5
 loop-again : tie.Need-loop-again Inv-loop μ-loop
 loop-again c = (each-on _ _ _ _ (omega arith) (c .before .before .before .before .before .before .before .loop .inv .0) (rw (c .before .before .before .size .ensures) at (c .before .before .put-spaced .ensures)), search needs, search needs)
 
--- src/lines.rt:96:1
 same-length : tie.Need-same-length Inv-loop μ-loop
 same-length c = c .before .loop .inv .1
 
--- src/lines.rt:96:1
 returns : tie.Need-returns Inv-loop μ-loop
 returns c = each-all _ _ _ _ _ _ (c .before .before .least .ensures .1 .1) (c .before .loop .inv .2) (c .loop-test .left) (c .before .loop .inv .0)
 

@@ -1,46 +1,35 @@
+-- `put_rows` meets its contract: no place is used, or some are.
+-- Assumes nothing.
 use borrow.Author.Needs.{needs}
 use Rattle.records.proofs.lines.put_rows.Statement.{statement}
 use Rattle.records.proofs.lines.put_rows.Tie as tie
-use Rattle.records.proofs.lines.put_rows.Reads as reads
-use Rattle.records.proofs.lines.put_rows.Lts as lts
-use Rattle.printing.proofs.put.Reads as put-reads
-use Rattle.records.proofs.lines.put_places.Reads as put-places-reads
 use Rattle.records.proofs.Pieces.{none-put, some-put}
 use denote.Ref.{now}
 
--- src/lines.rt:113:28
 slice-aggregate-put : tie.Need-slice-aggregate-put
 slice-aggregate-put c = search needs
 
--- src/lines.rt:113:9
 put-requires : tie.Need-put-requires
 put-requires c κs = search needs
 
--- src/lines.rt:115:30
 slice-aggregate-put-2 : tie.Need-slice-aggregate-put-2
 slice-aggregate-put-2 c = search needs
 
--- src/lines.rt:115:9
 put-requires-2 : tie.Need-put-requires-2
 put-requires-2 c κs = search needs
 
--- src/lines.rt:115:9
 same-length : tie.Need-same-length
 same-length c = search needs
 
--- src/lines.rt:115:9
 returns : tie.Need-returns
 returns c = none-put (now (c .before .before .before .before .before .before .before .before .before .before .before .before .before .args .slice)) _ _ (c .before .before .before .before .before .before .before .before .put .ensures) (c .before .before .before .before .before .if1 .taken) (c .before .before .put2 .ensures)
 
--- src/lines.rt:117:5
 put-places-requires : tie.Need-put-places-requires
 put-places-requires c κs = search needs
 
--- src/lines.rt:110:1
 same-length-2 : tie.Need-same-length-2
 same-length-2 c = search needs
 
--- src/lines.rt:110:1
 returns-2 : tie.Need-returns-2
 returns-2 c = some-put (now (c .before .before .before .before .before .before .before .before .before .before .before .before .args .slice)) _ _ (c .before .before .before .before .before .before .before .put .ensures) (c .before .before .before .before .if1 .left) (c .before .before .put-places .ensures)
 

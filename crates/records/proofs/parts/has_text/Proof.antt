@@ -1,20 +1,17 @@
+-- `has_text` meets its contract: the place lies past the end, or in the bytes.
+-- Assumes nothing.
 use borrow.Author.Needs.{needs}
 use Rattle.records.proofs.parts.has_text.Statement.{statement}
 use Rattle.records.proofs.parts.has_text.Tie as tie
-use Rattle.records.proofs.parts.has_text.Reads as reads
-use Rattle.records.proofs.parts.has_text.Lts as lts
 use Rattle.records.proofs.Records.{text-cut, text-whole}
 use native.Mathlib.Omega.{arith}
 
--- src/parts.rt:45:9
 returns : tie.Need-returns
 returns c = text-cut _ _ (c .if1 .taken)
 
--- src/parts.rt:47:5
 sub-result : tie.Need-sub-result
 sub-result c = search needs
 
--- src/parts.rt:41:1
 returns-2 : tie.Need-returns-2
 returns-2 c = text-whole _ _ (c .if1 .left)
 

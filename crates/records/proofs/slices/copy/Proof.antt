@@ -1,8 +1,7 @@
+-- `copy` meets its contract. The loop's invariant: so many places are filled.
+-- Assumes nothing.
 use Rattle.records.proofs.slices.copy.Statement.{statement}
 use Rattle.records.proofs.slices.copy.Tie as tie
-use Rattle.records.proofs.slices.copy.Reads as reads
-use Rattle.records.proofs.slices.copy.Lts as lts
-use Rattle.console.proofs.u32_at.Reads as u32-at-reads
 use Prim.Native.Nat.{_-_, _≤_}
 use mathlib.Core.Path.{_≡_, sym, ap, _∙_}
 use native.Mathlib.Omega.{arith}
@@ -18,43 +17,33 @@ Inv-loop bytes slice₀ places i₀ slice i = (slice ≡ filled bytes i slice₀
 abbrev μ-loop : tie.MeasureT-loop
 μ-loop bytes slice₀ places i₀ slice i = places - i
 
--- src/slices.rt:74:5
 loop-holds : tie.Need-loop-holds Inv-loop μ-loop
 loop-holds c = (filled-none _ _, search needs, search needs)
 
--- src/slices.rt:75:34
 mul-u32-at : tie.Need-mul-u32-at Inv-loop μ-loop
 mul-u32-at c = search needs
 
--- src/slices.rt:75:20
 u32-at-requires : tie.Need-u32-at-requires Inv-loop μ-loop
 u32-at-requires c κs = search needs
 
--- src/slices.rt:75:9
 mul-slice : tie.Need-mul-slice Inv-loop μ-loop
 mul-slice c = search needs
 
--- src/slices.rt:75:9
 slice-write-slice : tie.Need-slice-write-slice Inv-loop μ-loop
 slice-write-slice c = search needs
 
--- src/slices.rt:76:9
 add-i : tie.Need-add-i Inv-loop μ-loop
 add-i c = search needs
 
--- src/slices.rt:74:5
 loop-less : tie.Need-loop-less Inv-loop μ-loop
 loop-less c = search needs
 
--- src/slices.rt:74:5
 loop-again : tie.Need-loop-again Inv-loop μ-loop
 loop-again c = (rw (c .before .before .loop .inv .0, c .u32-at .ensures) (filled-on _ _ _ (omega arith)), search needs, search needs)
 
--- src/slices.rt:69:1
 same-length : tie.Need-same-length Inv-loop μ-loop
 same-length c = c .before .loop .inv .1
 
--- src/slices.rt:69:1
 returns : tie.Need-returns Inv-loop μ-loop
 returns c = filled-all _ _ _ _ (c .before .loop .inv .2) (c .loop-test .left) (c .before .loop .inv .0)
 

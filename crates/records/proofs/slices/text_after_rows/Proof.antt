@@ -1,32 +1,25 @@
+-- `text_after_rows` meets its contract: both lengths are those told.
+-- Assumes nothing.
 use borrow.Author.Needs.{needs}
 use Rattle.records.proofs.slices.text_after_rows.Statement.{statement}
 use Rattle.records.proofs.slices.text_after_rows.Tie as tie
-use Rattle.records.proofs.slices.text_after_rows.Reads as reads
-use Rattle.records.proofs.slices.text_after_rows.Lts as lts
-use Rattle.records.proofs.parts.field.Reads as field-reads
 use Rattle.records.proofs.Records.{after-rows}
 
--- src/slices.rt:65:22
 field-requires : tie.Need-field-requires
 field-requires c κs = search needs
 
--- src/slices.rt:65:40
 field-requires-2 : tie.Need-field-requires-2
 field-requires-2 c κs = search needs
 
--- src/slices.rt:65:22
 add-result : tie.Need-add-result
 add-result c = search needs
 
--- src/slices.rt:65:21
 mul-result : tie.Need-mul-result
 mul-result c = search needs
 
--- src/slices.rt:65:5
 add-result-2 : tie.Need-add-result-2
 add-result-2 c = search needs
 
--- src/slices.rt:62:1
 returns : tie.Need-returns
 returns c = after-rows _ (c .before .field .ensures .0) (c .field2 .ensures .0)
 
