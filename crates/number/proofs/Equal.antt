@@ -22,7 +22,7 @@ or-right : (a b : Bool) → b ≡ true → (a || b) ≡ true
 or-right true b e = refl
 or-right false b e = e
 
-digit-sign : (b : ℕ) → isDigit b ≡ true → isSign b ≡ false
+pub digit-sign : (b : ℕ) → isDigit b ≡ true → isSign b ≡ false
 digit-sign b e =
     let low = digit-low b e in
     rw (ne-eqb b 43 (λ q. omega arith), ne-eqb b 45 (λ q. omega arith))
@@ -30,8 +30,15 @@ digit-sign b e =
 point-sign : (b : ℕ) → isPoint b ≡ true → isSign b ≡ false
 point-sign b e = ap isSign (eqb-true b 46 e)
 
-point-digit : (b : ℕ) → isPoint b ≡ true → isDigit b ≡ false
+pub point-digit : (b : ℕ) → isPoint b ≡ true → isDigit b ≡ false
 point-digit b e = ap isDigit (eqb-true b 46 e)
+
+-- a sign is no digit and no point
+pub sign-digit : (b : ℕ) → isSign b ≡ true → isDigit b ≡ false
+sign-digit b e = or-elim (eqb b 43) (eqb b 45) (λ q. ap isDigit (eqb-true b 43 q)) (λ q. ap isDigit (eqb-true b 45 q)) e
+
+pub sign-point : (b : ℕ) → isSign b ≡ true → isPoint b ≡ false
+sign-point b e = or-elim (eqb b 43) (eqb b 45) (λ q. ap isPoint (eqb-true b 43 q)) (λ q. ap isPoint (eqb-true b 45 q)) e
 
 e-digit : (b : ℕ) → isE b ≡ true → isDigit b ≡ false
 e-digit b e = or-elim (eqb b 101) (eqb b 69) (λ q. ap isDigit (eqb-true b 101 q)) (λ q. ap isDigit (eqb-true b 69 q)) e
@@ -155,7 +162,7 @@ passes (both {y = y} absent u) = rw (one-none isSign y (unsigned-sign u)) (unsig
 passes (both (present (one s)) u) = rw s (unsigned-passes u)
 
 -- what passes is a text of the grammar
-nil-is : (l : List ℕ) → isNil l ≡ true → l ≡ []
+pub nil-is : (l : List ℕ) → isNil l ≡ true → l ≡ []
 unfolding isNil
 nil-is [] e = refl
 nil-is (b ∷ l) e = absurd (false≢true e)

@@ -1,7 +1,7 @@
 -- What each step over a text shows, in the variables of the code.
 -- Assumes nothing.
 use mathlib.Core.Path.{_≡_, refl, sym, ap, ap₂, _∙_}
-use mathlib.Core.Bool.{Bool, true, false, cond, not, _||_, _&&_, and-true, and-eq-true-iff}
+use mathlib.Core.Bool.{Bool, true, false, cond, not, _||_, _&&_, and-true}
 use mathlib.Core.List.{List, [], _∷_, _++_}
 use Prim.Native.Nat.{ℕ, _+_, _≤_, _<_}
 use native.Mathlib.Decide.{decLt}
@@ -17,7 +17,7 @@ use Rattle.scan.proofs.Front.{rest-past, begins-at, one-yes, part-first, part-n
 use Rattle.scan.proofs.Runs.{on, stop, past, not-before, not-past, moves, rest-run, rest-one, scan-on, scan-one, part-one}
 use Rattle.words.specs.Words.{sameWord, upper}
 use Rattle.number.specs.declared.Lexeme.{Lexeme}
-use Rattle.number.specs.Lexeme.{isE, inf, infinity, nan, isNamed, atStop, afterWhole, hasDigit, isDigits, isExponent, isDecimal, isUnsigned, isLexeme, upToStop, fromHere}
+use Rattle.number.specs.Lexeme.{isE, inf, infinity, nan, isNamed, atStop, afterWhole, isDigits, isExponent, isDecimal, isUnsigned, isLexeme, upToStop, fromHere}
 use Rattle.number.proofs.Stop.{e-inner, decimal-part, all-none, one-none}
 use Rattle.number.proofs.Inner.{lexeme-whole}
 
@@ -163,22 +163,3 @@ whole-is w r e = rw e (go (leb (length w) (firstNot isInner w 0)) refl)
         and-false : (t : Bool) → (t && false) ≡ false
         and-false true = refl
         and-false false = refl
-
-or-true : (t : Bool) → (t || true) ≡ true
-or-true true = refl
-or-true false = refl
-
-plain-unsigned : (l : List ℕ) → hasDigit l ≡ true → afterAll isDigit (afterWhole l) ≡ [] → isUnsigned l ≡ true
-unfolding isUnsigned isDecimal isExponent isNil
-plain-unsigned l d e = rw (d, e) (or-true (isNamed l))
-
--- a sign, digits, a point and digits, and nothing after them
-pub plain-is : (w : List ℕ) (at whole point fraction : ℕ) → at ≡ afterOneAt isSign w 0 → whole ≡ firstNot isDigit w at → point ≡ afterOneAt isPoint w whole → fraction ≡ firstNot isDigit w point → (leb (length w) fraction && (ltb at whole || ltb point fraction)) ≡ true → true ≡ isLexeme w
-unfolding isLexeme rest
-plain-is w at whole point fraction s d p f t =
-    let both = and-eq-true-iff (leb (length w) fraction) (ltb at whole || ltb point fraction) .0 t in
-    let bare : afterOne isSign w ≡ rest w at = sym (ap (rest w) s ∙ rest-one isSign w 0 refl) in
-    let left : rest w point ≡ afterWhole (rest w at) = ap (rest w) p ∙ rest-one isPoint w whole refl ∙ ap (afterOne isPoint) (ap (rest w) d ∙ rest-run isDigit w at) in
-    let none : afterAll isDigit (afterWhole (rest w at)) ≡ [] = sym (ap (rest w) f ∙ rest-run isDigit w point ∙ ap (afterAll isDigit) left) ∙ rest-past w fraction (leb-true (length w) fraction (both .0)) in
-    let digit : hasDigit (rest w at) ≡ true = sym (ap₂ _||_ (ap (ltb at) d ∙ moves isDigit w at) (ap (ltb point) f ∙ moves isDigit w point ∙ ap (begins isDigit) left)) ∙ both .1 in
-    sym (ap isUnsigned bare ∙ plain-unsigned (rest w at) digit none)

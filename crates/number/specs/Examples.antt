@@ -3,13 +3,14 @@ use mathlib.Core.Path.{_≡_, refl}
 use mathlib.Core.Bool.{Bool, true, false, not}
 use mathlib.Core.List.{List, [], _∷_}
 use Prim.Native.Nat.{ℕ}
+use native.Mathlib.Omega.{arith}
 use Rattle.lists.specs.Lists.{passing, bytesThat, every}
 use Rattle.scan.specs.Text.{bytes}
 use Rattle.scan.specs.Front.{begins, afterOne, afterAll, isNil}
 use Rattle.scan.specs.Runs.{run, firstNot}
 use Rattle.words.specs.Words.{sameWord}
 use Rattle.number.specs.declared.Lexeme.{Lexeme}
-use Rattle.number.specs.Lexeme.{isE, isNamed, isDigits, isExponent, isDecimal, isUnsigned, isLexeme, upToStop}
+use Rattle.number.specs.Lexeme.{isE, isNamed, isDigits, isExponent, isDecimal, isUnsigned, isLexeme, isPlain, DigitsAfter, upToStop}
 
 good : (isLexeme (bytes "-1.5e+3") ≡ true)
     × (isLexeme (bytes "5.") ≡ true)
@@ -42,7 +43,7 @@ within = (refl, refl)
 
 -- ---- by the whole range of bytes: those that make a number's text where they stand
 all : ℕ
-unfolding passing every run firstNot isLexeme isUnsigned isNamed isDecimal isExponent isDigits begins afterOne afterAll isNil sameWord
+unfolding passing every run firstNot isLexeme isPlain isUnsigned isNamed isDecimal isExponent isDigits begins afterOne afterAll isNil sameWord
 all = 0
 
 -- `E` and `e`
@@ -100,3 +101,39 @@ allBad : every isBad
     ≡ true
 unfolding all isBad
 allBad = refl
+
+-- ---- texts that have no exponent and are no word
+isNotPlain : List ℕ → Bool
+isNotPlain w = not (isPlain w)
+
+-- signs, a point first and last, and more than four digits after the point, which are told four at a time
+plain : every isPlain
+    (bytes "0" ∷ bytes "5" ∷ bytes "+4" ∷ bytes "-4" ∷ bytes "-0" ∷ bytes "007" ∷ bytes "5." ∷ bytes ".5" ∷ bytes "-.5" ∷ bytes "+5." ∷ bytes "-1.5" ∷ bytes "1.2345" ∷ bytes "1.23456" ∷ bytes ".123456789" ∷ bytes "-12345.123456789" ∷ [])
+    ≡ true
+unfolding all
+plain = refl
+
+-- no digit at all, a point or a sign too many, a letter before the point and among the digits after it
+notPlain : every isNotPlain
+    ([] ∷ bytes "." ∷ bytes "+" ∷ bytes "-" ∷ bytes "+." ∷ bytes "-." ∷ bytes ".." ∷ bytes "1.2.3" ∷ bytes "1.." ∷ bytes "..1" ∷ bytes "+-1" ∷ bytes "1-" ∷ bytes "1.-5" ∷ bytes ".+5" ∷ bytes "x" ∷ bytes "4x" ∷ bytes "x4" ∷ bytes "1.x" ∷ bytes "1.23x5" ∷ bytes "1.2345x" ∷ bytes "1.2345678x" ∷ bytes "1.2345.6" ∷ bytes "1 " ∷ bytes " 1" ∷ bytes "1,5" ∷ [])
+    ≡ true
+unfolding all isNotPlain
+notPlain = refl
+
+-- these are lexemes, and not plain ones
+lexemesOnly : (every isLexeme (bytes "1e5" ∷ bytes "-1.5E+3" ∷ bytes "inf" ∷ bytes "-Infinity" ∷ bytes "nan" ∷ []) ≡ true) × (every isNotPlain (bytes "1e5" ∷ bytes "-1.5E+3" ∷ bytes "inf" ∷ bytes "-Infinity" ∷ bytes "nan" ∷ []) ≡ true)
+unfolding all isNotPlain
+lexemesOnly = (refl, refl)
+
+-- by the whole range of bytes: alone, before `5`, after `1`, and as the fourth of six digits after a point
+plainBytes : (bytesThat (λ b. isPlain (b ∷ [])) ≡ 48 ∷ 49 ∷ 50 ∷ 51 ∷ 52 ∷ 53 ∷ 54 ∷ 55 ∷ 56 ∷ 57 ∷ [])
+    × (bytesThat (λ b. isPlain (b ∷ bytes "5")) ≡ 43 ∷ 45 ∷ 46 ∷ 48 ∷ 49 ∷ 50 ∷ 51 ∷ 52 ∷ 53 ∷ 54 ∷ 55 ∷ 56 ∷ 57 ∷ [])
+    × (bytesThat (λ b. isPlain (49 ∷ b ∷ [])) ≡ 46 ∷ 48 ∷ 49 ∷ 50 ∷ 51 ∷ 52 ∷ 53 ∷ 54 ∷ 55 ∷ 56 ∷ 57 ∷ [])
+    × (bytesThat (λ b. isPlain (46 ∷ 49 ∷ 50 ∷ 51 ∷ b ∷ bytes "56")) ≡ 48 ∷ 49 ∷ 50 ∷ 51 ∷ 52 ∷ 53 ∷ 54 ∷ 55 ∷ 56 ∷ 57 ∷ [])
+unfolding all
+plainBytes = (refl, refl, refl, refl)
+
+-- after the point of `1.234x` stand digits up to the place 4, and none need be told
+digitsAfter : DigitsAfter (bytes "1.234x") 1 4 × DigitsAfter (bytes "1.234x") 1 1
+unfolding all
+digitsAfter = (record { from = omega arith; inside = omega arith; digits = refl }, record { from = omega arith; inside = omega arith; digits = refl })

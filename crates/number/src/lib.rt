@@ -140,7 +140,7 @@ pub fn is_plain(w: &[u8]) -> bool
     if len == 1 {
         return is_digit(w[0]);
     }
-    let mut points = 0;
+    let mut points: usize = 0;
     let mut others = 0;
     let mut i = 0;
     while i < len {
