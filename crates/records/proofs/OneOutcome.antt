@@ -1,7 +1,7 @@
 -- Two answers that a public function's contract allows for one input are one answer, and so are two slices and two buffers that are left. `refill` isn't
 -- here: what it leaves is what standard input has.
 -- Assumes nothing.
-use Prim.Native.Nat.{ℕ, _+_}
+use Prim.Native.Nat.{ℕ, _+_, _*_}
 use mathlib.Core.Path.{_≡_, sym, ap, _∙_}
 use mathlib.Core.List.{List}
 use lib.ListN.{drop}
@@ -13,7 +13,7 @@ use Rattle.store.specs.declared.ReadAnswer.{ReadAnswer}
 use Rattle.store.specs.declared.WriteAnswer.{WriteAnswer}
 use Rattle.records.specs.declared.input.State.{State}
 use Rattle.records.specs.declared.slices.Slices.{Slices}
-use Rattle.records.specs.Records.{hasTextAt, lentIn, broughtIn, filled}
+use Rattle.records.specs.Records.{hasTextAt, afterLengths, lentIn, filled, Loads}
 use Rattle.records.specs.Input.{frontOf, cutIn}
 use Rattle.records.specs.Lines.{badRecord, threeNumbers, readLine, writeLine}
 
@@ -33,11 +33,14 @@ module _ (bytes : List ℕ) where
   pub lent-one : One (λ r. r ≡ lentIn bytes)
   lent-one = one
 
-  -- what is told, and the rows
-  pub load-one : (rows : List ℕ) {rows′ rows″ : List ℕ} {r r′ : Slices} → (r ≡ broughtIn bytes) × (rows′ ≡ filled (drop 8 bytes) (r .nodes + r .numbers) rows) → (r′ ≡ broughtIn bytes) × (rows″ ≡ filled (drop 8 bytes) (r′ .nodes + r′ .numbers) rows) → (r ≡ r′) × (rows′ ≡ rows″)
-  load-one rows (a, x) (b, y) =
-      let same = a ∙ sym b in
-      (same, x ∙ (ap (λ (s : Slices). filled (drop 8 bytes) (s .nodes + s .numbers) rows) same ∙ sym y))
+  -- what is told, and both slices
+  pub load-one : (ns ms : List ℕ) {r r′ : Slices} {ns′ ns″ ms′ ms″ : List ℕ} → Loads bytes ns ms r ns′ ms′ → Loads bytes ns ms r′ ns″ ms″ → (r ≡ r′) × (ns′ ≡ ns″) × (ms′ ≡ ms″)
+  load-one ns ms a b =
+      let same = a .told ∙ sym (b .told) in (
+        same,
+        a .nodes ∙ (ap (λ (s : Slices). filled (drop afterLengths bytes) (s .nodes) ns) same ∙ sym (b .nodes)),
+        a .numbers ∙ (ap (λ (s : Slices). filled (drop (afterLengths + s .nodes * 4) bytes) (s .numbers) ms) same ∙ sym (b .numbers)),
+      )
 
 -- the bytes and the count together
 module _ (b : Buffer) where

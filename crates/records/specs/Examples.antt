@@ -11,7 +11,7 @@ use Rattle.store.specs.declared.WriteAnswer.{WriteAnswer}
 use Rattle.printing.specs.Printing.{buffer, hasRoomAt, putIn, putAllIn, placesFrom, decimal}
 use Rattle.console.specs.Console.{u32At}
 use Rattle.records.specs.declared.input.Front.the-variants.{Whole, TooLarge, Cut}
-use Rattle.records.specs.Records.{hasTextAt, slices, slicesAt, textAfterRows, lentIn, broughtIn, numbersIn, filled}
+use Rattle.records.specs.Records.{hasTextAt, slices, slicesAt, textAfterRows, lentIn, broughtIn, numbersIn, filled, Loads}
 use Rattle.records.specs.Input.{state, frontIn, frontOf, cutIn}
 use Rattle.records.specs.Lines.{notZero, eachOf, readLine, writeLine}
 
@@ -63,10 +63,15 @@ limits = (refl, refl, refl)
 brought : List ℕ
 brought = 1 ∷ 0 ∷ 0 ∷ 0 ∷ 2 ∷ 0 ∷ 0 ∷ 0 ∷ 7 ∷ 0 ∷ 0 ∷ 0 ∷ 8 ∷ 1 ∷ 0 ∷ 0 ∷ 9 ∷ 0 ∷ 0 ∷ 0 ∷ bytes "ab"
 
--- where the text starts, the rows at the front of the places that are lent; and without the last row the record is cut
-rows : (broughtIn brought ≡ slices true 1 2 20) × (drop 20 brought ≡ bytes "ab") × (filled (drop 8 brought) 3 (5 ∷ 5 ∷ 5 ∷ 5 ∷ []) ≡ 7 ∷ 264 ∷ 9 ∷ 5 ∷ []) × (broughtIn (take 19 brought) ≡ slices false 0 0 0)
+-- where the text starts; and without the last byte of the rows the record is cut
+told : (broughtIn brought ≡ slices true 1 2 20) × (drop 20 brought ≡ bytes "ab") × (broughtIn (take 19 brought) ≡ slices false 0 0 0)
 unfolding all brought
-rows = (refl, refl, refl, refl)
+told = (refl, refl, refl)
+
+-- the rows at the front of four places each
+rows : Loads brought (replicate 4 5) (replicate 4 6) (slices true 1 2 20) (7 ∷ 5 ∷ 5 ∷ 5 ∷ []) (264 ∷ 9 ∷ 6 ∷ 6 ∷ [])
+unfolding all brought
+rows = record { told = refl; nodes = refl; numbers = refl }
 
 -- a buffer of twelve bytes: a count of two, `ab`, and then a count of nine, which it can't hold
 input : List ℕ

@@ -1,5 +1,6 @@
 -- The parts of a record: "a letter, the fields of that letter as u32 each, the rows as u32 each, and the text, which is what is left of the n bytes".
 use Prim.Native.Nat.{ℕ, _+_, _-_, _*_, _≤_}
+use mathlib.Core.Path.{_≡_}
 use mathlib.Core.Bool.{Bool, true, false, cond, _&&_}
 use mathlib.Core.List.{List, _++_}
 use lib.Dec.{leb}
@@ -60,3 +61,9 @@ numbersIn l n = firsts (λ i. u32At l (i * 4)) n
 -- places with those numbers at their front
 unfoldable pub filled : List ℕ → ℕ → List ℕ → List ℕ
 filled l n places = numbersIn l n ++ drop n places
+
+-- the rows of the nodes, then at once those of the numbers, each at the front of what was lent for them
+pub record Loads (l ns ms : List ℕ) (s : Slices) (ns′ ms′ : List ℕ) : Type 0 where
+  pub told : s ≡ broughtIn l
+  pub nodes : ns′ ≡ filled (drop afterLengths l) (s .nodes) ns
+  pub numbers : ms′ ≡ filled (drop (afterLengths + s .nodes * 4) l) (s .numbers) ms

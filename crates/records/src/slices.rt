@@ -6,15 +6,12 @@ use crate::parts::has_text;
 use console::U32_BYTES;
 use console::u32_at;
 ghost use mathlib.Core.Path.{_≡_};
-ghost use Prim.Native.Nat.{_+_, _≤_};
-ghost use lib.ListN.{length, drop};
-ghost use Rattle.records.specs.Records.{textAfterRows, slicesAt, Within, lentIn, broughtIn, filled};
+ghost use Prim.Native.Nat.{_≤_};
+ghost use lib.ListN.{length};
+ghost use Rattle.records.specs.Records.{textAfterRows, slicesAt, Within, lentIn, filled, Loads};
 
 // A record that asks for a longer slice is too large.
 pub const MAX_SLICE: usize = 98_304;
-
-// The rows of both slices.
-pub const MAX_ROWS: usize = 2 * MAX_SLICE;
 
 // Behind the lengths: the rows, and else the text.
 const AFTER_LENGTHS: usize = 2 * U32_BYTES;
@@ -77,15 +74,15 @@ fn copy(bytes: &[u8], slice: &mut [u32], places: usize)
     }
 }
 
-// Of a record that brings its rows: those of the nodes, then at once those of the numbers, then the text. Where the slices fit they stand at the
-// front of `rows` after it, and nothing else of `rows` has changed.
-pub fn load(bytes: &[u8], rows: &mut [u32; MAX_ROWS]) -> Slices
-    ensures { λ r. ⌜ r ≡ broughtIn (now (bytes .entry)) ⌝ }
+// Of a record that brings its rows: those of the nodes, then at once those of the numbers, then the text. They stand at the front of what is lent
+// after it, and nothing else of it has changed.
+pub fn load(bytes: &[u8], nodes: &mut [u32; MAX_SLICE], numbers: &mut [u32; MAX_SLICE]) -> Slices
+    ensures { λ r. ⌜ Loads (now (bytes .entry)) (now (nodes .entry)) (now (numbers .entry)) r (now (nodes .exit)) (now (numbers .exit)) ⌝ }
     ensures { λ r. ⌜ Within r (length (now (bytes .entry))) ⌝ }
-    ensures { λ r. ⌜ now (rows .exit) ≡ filled (drop 8 (now (bytes .entry))) (r .nodes + r .numbers) (now (rows .entry)) ⌝ }
 {
     let slices = told(bytes, text_after_rows(bytes));
-    let places = slices.nodes + slices.numbers;
-    copy(behind(bytes, AFTER_LENGTHS), rows, places);
+    copy(behind(bytes, AFTER_LENGTHS), nodes, slices.nodes);
+    let middle = AFTER_LENGTHS + slices.nodes * U32_BYTES;
+    copy(behind(bytes, middle), numbers, slices.numbers);
     slices
 }

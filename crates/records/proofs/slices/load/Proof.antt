@@ -10,17 +10,33 @@ text-after-rows-requires c κs = search needs
 told-requires : tie.Need-told-requires
 told-requires c κs = search needs
 
-add-places : tie.Need-add-places
-add-places c = search needs
-
 behind-requires : tie.Need-behind-requires
 behind-requires c κs = search needs
 
 copy-requires : tie.Need-copy-requires
 copy-requires c κs = search needs
 
+mul-middle : tie.Need-mul-middle
+mul-middle c = search needs
+
+add-middle : tie.Need-add-middle
+add-middle c = search needs
+
+behind-requires-2 : tie.Need-behind-requires-2
+behind-requires-2 c κs = search needs
+
+copy-requires-2 : tie.Need-copy-requires-2
+copy-requires-2 c κs = search needs
+
 returns : tie.Need-returns
-returns c = (rw (c .before .before .before .before .before .text-after-rows .ensures) at (c .before .before .before .before .told .ensures .0), (c .before .before .before .before .told .ensures .1, rw (c .before .before .behind .ensures) at (c .copy .ensures)))
+returns c = (
+  record {
+    told = rw (c .before .before .before .before .before .before .before .before .text-after-rows .ensures) at (c .before .before .before .before .before .before .before .told .ensures .0);
+    nodes = rw (c .before .before .before .before .before .before .behind .ensures) at (c .before .before .before .before .copy .ensures);
+    numbers = rw (c .before .before .behind2 .ensures) at (c .copy2 .ensures);
+  },
+  c .before .before .before .before .before .before .before .told .ensures .1,
+)
 
 pub load-spec : {M : Type 1} → statement M
 load-spec =
@@ -28,7 +44,10 @@ load-spec =
     (tie.spec
     text-after-rows-requires
     told-requires
-    add-places
     behind-requires
     copy-requires
+    mul-middle
+    add-middle
+    behind-requires-2
+    copy-requires-2
     returns)
