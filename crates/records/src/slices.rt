@@ -8,7 +8,7 @@ use console::u32_at;
 ghost use mathlib.Core.Path.{_≡_};
 ghost use Prim.Native.Nat.{_≤_};
 ghost use lib.ListN.{length};
-ghost use Rattle.records.specs.Records.{textAfterRows, slicesAt, Within, lentIn, filled, Loads};
+ghost use Rattle.records.specs.Records.{maxSlice, textAfterRows, slicesAt, Within, lentIn, filled, Loads};
 
 // A record that asks for a longer slice is too large.
 pub const MAX_SLICE: usize = 98_304;
@@ -79,6 +79,7 @@ fn copy(bytes: &[u8], slice: &mut [u32], places: usize)
 pub fn load(bytes: &[u8], nodes: &mut [u32; MAX_SLICE], numbers: &mut [u32; MAX_SLICE]) -> Slices
     ensures { λ r. ⌜ Loads (now (bytes .entry)) (now (nodes .entry)) (now (numbers .entry)) r (now (nodes .exit)) (now (numbers .exit)) ⌝ }
     ensures { λ r. ⌜ Within r (length (now (bytes .entry))) ⌝ }
+    ensures { λ r. ⌜ (length (now (nodes .exit)) ≡ maxSlice) × (length (now (numbers .exit)) ≡ maxSlice) ⌝ }
 {
     let slices = told(bytes, text_after_rows(bytes));
     copy(behind(bytes, AFTER_LENGTHS), nodes, slices.nodes);

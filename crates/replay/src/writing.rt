@@ -24,13 +24,16 @@ fn write_and_put(
 
 // The line of a record of this letter.
 pub(crate) fn answer(record: &[u8], out: &mut [u8], at: usize) -> usize {
+    let bytes = field(record, FIRST);
+    if MAX_OUTPUT < bytes {
+        return put_bad_record(out, at);
+    }
     let mut nodes = [0u32; MAX_SLICE];
     let mut numbers = [0u32; MAX_SLICE];
     let mut output = [u8::MAX; MAX_OUTPUT];
-    let bytes = field(record, FIRST);
     let slices = behind(record, SECOND);
     let brought = load(slices, &mut nodes, &mut numbers);
-    if brought.fit & (bytes <= MAX_OUTPUT) {
+    if brought.fit {
         let text = brought.text;
         let node_places = brought.nodes;
         let number_places = brought.numbers;

@@ -35,7 +35,7 @@ returns c = (
     nodes = rw (c .before .before .before .before .before .before .behind .ensures) at (c .before .before .before .before .copy .ensures);
     numbers = rw (c .before .before .behind2 .ensures) at (c .copy2 .ensures);
   },
-  c .before .before .before .before .before .before .before .told .ensures .1,
+  (c .before .before .before .before .before .before .before .told .ensures .1, search needs),
 )
 
 pub load-spec : {M : Type 1} → statement M
