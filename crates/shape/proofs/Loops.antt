@@ -2,9 +2,9 @@
 -- where all was met or where the rows are no tree. Its own invariant is what it says of the things met.
 -- And the law of a loop that gives the rows of a slice one by one, and only asks whether they are a tree.
 -- Assumes nothing.
-use mathlib.Core.Path.{_≡_, refl, ap, sym, subst, _∙_}
+use mathlib.Core.Path.{_≡_, ap, sym, subst, _∙_}
 use mathlib.Core.Bool.{false}
-use mathlib.Core.Option.{Option, none, some}
+use mathlib.Core.Option.{none, some}
 use mathlib.Core.List.{List, [], _∷_, _++_, append-nil}
 use Prim.Native.Nat.{ℕ, _+_, _^_, _≤_, _<_}
 use native.Mathlib.Omega.{arith}
@@ -20,7 +20,7 @@ use Rattle.shape.specs.Nodes.{follow}
 use Rattle.shape.specs.Store.{isSome}
 use Rattle.shape.specs.Walk.{cells, After, beginning, entering, hasEnded, walkStep, rowsFrom, aheadBy, ahead, wholeWalk}
 use Rattle.shape.proofs.Trees.{follow-none, follow-both}
-use Rattle.shape.proofs.Fed.{Reached, Begun, given-begin, Gone, given-to, given-ill, given-last}
+use Rattle.shape.proofs.Fed.{Reached, given-begin, given-to, given-ill, given-last}
 use Rattle.shape.proofs.Stepped.{rows-in, rows-past, Forward, SteppedTo, Stepped, stepped}
 
 pub record Walking (nodes : List ℕ) (count : ℕ) (s : List ℕ) (w : Walk) (P : List Met → Type 0) : Type 0 where

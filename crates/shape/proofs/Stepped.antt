@@ -19,7 +19,7 @@ use Rattle.shape.specs.Walk.{frames, frameAt, walkAt, walked, After, ill
 use Rattle.shape.proofs.Stack.{firsts-cut, firsts-past, openFrom}
 use Rattle.shape.proofs.Trees.{follow-both}
 use Rattle.shape.proofs.Nested.{nested-outer, outermost}
-use Rattle.shape.proofs.Fed.{Reached, Forth, MetTo, cut, nested-cut, wanted, met-row}
+use Rattle.shape.proofs.Fed.{Reached, MetTo, cut, nested-cut, wanted, met-row}
 
 -- ---- rows that are left
 module _ (nodes : List ℕ) (i : ℕ) where

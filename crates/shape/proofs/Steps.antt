@@ -12,14 +12,13 @@ use Rattle.shape.specs.declared.Frame.{Frame}
 use Rattle.shape.specs.declared.Visit.{Visit}
 use Rattle.shape.specs.declared.Walk.{Walk}
 use Rattle.shape.specs.declared.Met.the-variants as met
-use Rattle.shape.specs.declared.Coming.{Coming}
 use Rattle.shape.specs.declared.Coming.the-variants.{Child, End, Last}
 use Rattle.shape.specs.declared.Wanted.the-variants.{Below, None}
 use Rattle.shape.specs.declared.Entered.{Entered}
 use Rattle.shape.specs.declared.Entered.the-variants.{To, Ill}
 use Rattle.shape.specs.Nodes.{noKind, visitOf, numbersOf, isLeaf, isAllowed, mayOpen, frameOf}
 use Rattle.shape.specs.Walk.{frames, HasChild, frameAt, putFrame, putNext, walkAt, walked, After, ill, comingIn, comingNext, passingLeaf, pushing, meeting, wantedFrom, isNode, enteredBy, entering, walkStep}
-use Rattle.shape.proofs.Wants.{wants-here, WantsBelow, wants-below}
+use Rattle.shape.proofs.Wants.{wants-here, wants-below}
 
 -- ---- a row that is given
 -- a node wants a child, and the row can be counted

@@ -21,7 +21,8 @@ const HEAD_CONTENT: usize = 9;
 const NODE_CONTENT: usize = 6;
 
 // How many bytes the number fields have; one more than the limit where a text doesn't fit a field, or where all of them don't fit the limit.
-fn measure_numbers(numbers: &[u32], limit: usize) -> usize {
+fn measure_numbers(numbers: &[u32], limit: usize) -> usize
+{
     let count = store::number_room(numbers);
     let mut bytes = 0;
     let mut i = 0;
@@ -41,7 +42,8 @@ fn measure_numbers(numbers: &[u32], limit: usize) -> usize {
 
 // How many bytes the fields of a tree have; more than the limit where something doesn't fit. Parts always fit where the counts do: a node has no more
 // children than there are nodes, and no more coordinates than there are numbers.
-fn measure(nodes: &[u32], numbers: &[u32], v: Version) -> usize {
+fn measure(nodes: &[u32], numbers: &[u32], v: Version) -> usize
+{
     let node_count = store::node_room(nodes);
     let number_count = store::number_room(numbers);
     if (v.largest < node_count) | (v.largest < number_count) {
@@ -52,7 +54,8 @@ fn measure(nodes: &[u32], numbers: &[u32], v: Version) -> usize {
     before + node_count * each + measure_numbers(numbers, v.limit)
 }
 
-fn put_head(out: &mut [u8], p: Pen, v: Version, nodes: usize, numbers: usize) -> Pen {
+fn put_head(out: &mut [u8], p: Pen, v: Version, nodes: usize, numbers: usize) -> Pen
+{
     let mut content = [0u8; HEAD_CONTENT];
     let middle = 1 + v.width;
     let end = middle + v.width;
@@ -62,7 +65,8 @@ fn put_head(out: &mut [u8], p: Pen, v: Version, nodes: usize, numbers: usize) ->
     fields::put_field(out, p, HEAD_TAG, &content[..end])
 }
 
-fn put_nodes(out: &mut [u8], p: Pen, width: usize, nodes: &[u32]) -> Pen {
+fn put_nodes(out: &mut [u8], p: Pen, width: usize, nodes: &[u32]) -> Pen
+{
     let count = store::node_room(nodes);
     let end = 2 + width;
     let mut content = [0u8; NODE_CONTENT];
@@ -78,7 +82,8 @@ fn put_nodes(out: &mut [u8], p: Pen, width: usize, nodes: &[u32]) -> Pen {
     q
 }
 
-fn put_numbers(out: &mut [u8], p: Pen, text: &[u8], numbers: &[u32]) -> Pen {
+fn put_numbers(out: &mut [u8], p: Pen, text: &[u8], numbers: &[u32]) -> Pen
+{
     let count = store::number_room(numbers);
     let mut q = p;
     let mut i = 0;
@@ -90,13 +95,8 @@ fn put_numbers(out: &mut [u8], p: Pen, text: &[u8], numbers: &[u32]) -> Pen {
 }
 
 // Puts the fields of a tree for which there is room.
-fn put_tree(
-    text: &[u8],
-    nodes: &[u32],
-    numbers: &[u32],
-    v: Version,
-    out: &mut [u8],
-) -> WriteAnswer {
+fn put_tree(text: &[u8], nodes: &[u32], numbers: &[u32], v: Version, out: &mut [u8]) -> WriteAnswer
+{
     let p = put_head(
         out,
         Pen { at: 0, full: false },

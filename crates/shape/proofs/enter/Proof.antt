@@ -3,7 +3,7 @@
 use mathlib.Core.Path.{sym, _∙_}
 use native.Mathlib.Omega.{arith}
 use borrow.Author.Needs.{needs}
-use Rattle.shape.proofs.Wants.{WantsBelow, wants-below}
+use Rattle.shape.proofs.Wants.{wants-below}
 use Rattle.shape.proofs.Steps.{none-wanted, not-counted, has-child, enters-to, enters-ill}
 use Rattle.shape.proofs.enter.Statement.{statement}
 use Rattle.shape.proofs.enter.Tie as tie

@@ -2,7 +2,6 @@
 -- Assumes nothing.
 use mathlib.Core.Path.{_≡_, refl, sym, _∙_}
 use Prim.Native.Nat.{_-_}
-use native.Mathlib.Omega.{arith}
 use borrow.Author.Needs.{needs}
 use Rattle.shape.specs.Walk.{frames, wantedFrom}
 use Rattle.shape.proofs.Wants.{no-frame, wants-here, above-spent, node-spent}
