@@ -1,12 +1,15 @@
 -- Counts in bytes, the highest byte first (document 02, 2026-01: "big-endian"). How many bytes a count has is a parameter of every definition and law.
 use mathlib.Core.Bool.{Bool}
 use mathlib.Core.List.{List, [], _∷_, _++_}
-use Prim.Native.Nat.{ℕ, zero, suc, _+_, _*_, _/_, _%_, _^_}
+use Prim.Native.Nat.{ℕ, zero, suc, _+_, _*_, _/_, _%_, _^_, _<_}
 use lib.Dec.{ltb}
 
 -- what a byte can say
 abbrev pub byte : ℕ
 byte = 256
+
+abbrev pub IsByte : ℕ → Type 0
+IsByte b = b < byte
 
 -- the count that bytes say after those that said n
 unfoldable pub countAfter : ℕ → List ℕ → ℕ

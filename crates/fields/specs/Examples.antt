@@ -28,16 +28,16 @@ unfolding all
 fields = (refl, refl, refl)
 
 -- two fields, the first of two bytes, the second of one
-data : List ℕ
-data = 3 ∷ 0 ∷ 2 ∷ 49 ∷ 50 ∷ 3 ∷ 0 ∷ 1 ∷ 51 ∷ []
+two : List ℕ
+two = 3 ∷ 0 ∷ 2 ∷ 49 ∷ 50 ∷ 3 ∷ 0 ∷ 1 ∷ 51 ∷ []
 
-told : (lengthIn data 0 ≡ 2) × (contentEnd data 0 ≡ 5) × (contentIn data 0 ≡ 49 ∷ 50 ∷ []) × (contentIn data 5 ≡ 51 ∷ [])
-unfolding all data
+told : (lengthIn two 0 ≡ 2) × (contentEnd two 0 ≡ 5) × (contentIn two 0 ≡ 49 ∷ 50 ∷ []) × (contentIn two 5 ≡ 51 ∷ [])
+unfolding all two
 told = (refl, refl, refl, refl)
 
 -- at its tag it is whole; of another tag, inside, and where nothing is left there is none
-found : (map (fieldAt 3 data) (0 ∷ 1 ∷ 5 ∷ 8 ∷ 9 ∷ []) ≡ Whole 5 ∷ Faulty ∷ Whole 9 ∷ Faulty ∷ Faulty ∷ []) × (fieldAt 2 data 0 ≡ Faulty)
-unfolding all data
+found : (map (fieldAt 3 two) (0 ∷ 1 ∷ 5 ∷ 8 ∷ 9 ∷ []) ≡ Whole 5 ∷ Faulty ∷ Whole 9 ∷ Faulty ∷ Faulty ∷ []) × (fieldAt 2 two 0 ≡ Faulty)
+unfolding all two
 found = (refl, refl)
 
 -- cut in the content, in the length, before the length
@@ -46,6 +46,6 @@ unfolding all
 cut = (refl, refl, refl, refl, refl)
 
 -- the length is the one asked for, neither more nor less, and its high byte counts
-sized : (isSized 3 2 data 0 ≡ true) × (isSized 3 1 data 0 ≡ false) × (isSized 3 3 data 0 ≡ false) × (isSized 2 2 data 0 ≡ false) × (isSized 3 0 (3 ∷ 1 ∷ 0 ∷ []) 0 ≡ false) × (isSized 3 2 (3 ∷ 0 ∷ 2 ∷ 49 ∷ []) 0 ≡ false)
-unfolding all data
+sized : (isSized 3 2 two 0 ≡ true) × (isSized 3 1 two 0 ≡ false) × (isSized 3 3 two 0 ≡ false) × (isSized 2 2 two 0 ≡ false) × (isSized 3 0 (3 ∷ 1 ∷ 0 ∷ []) 0 ≡ false) × (isSized 3 2 (3 ∷ 0 ∷ 2 ∷ 49 ∷ []) 0 ≡ false)
+unfolding all two
 sized = (refl, refl, refl, refl, refl, refl)

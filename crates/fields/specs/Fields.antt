@@ -23,24 +23,24 @@ longest = 65535
 unfoldable pub field : ℕ → List ℕ → List ℕ
 field tag content = tag ∷ (countBytes lengthWidth (length content) ++ content)
 
--- ---- a field at a place of the data
+-- ---- a field at a place of bytes
 -- the length that it tells
 unfoldable pub lengthIn : List ℕ → ℕ → ℕ
-lengthIn data at = countIn (take lengthWidth (drop (at + 1) data))
+lengthIn bytes at = countIn (take lengthWidth (drop (at + 1) bytes))
 
 abbrev pub contentEnd : List ℕ → ℕ → ℕ
-contentEnd data at = at + headLength + lengthIn data at
+contentEnd bytes at = at + headLength + lengthIn bytes at
 
 abbrev pub contentIn : List ℕ → ℕ → List ℕ
-contentIn data at = take (lengthIn data at) (drop (at + headLength) data)
+contentIn bytes at = take (lengthIn bytes at) (drop (at + headLength) bytes)
 
 -- it has the tag, and is neither missing nor cut: all that it tells of is there
 unfoldable pub isField : ℕ → List ℕ → ℕ → Bool
-isField tag data at = eqb (getD data at 0) tag && leb (contentEnd data at) (length data)
+isField tag bytes at = eqb (getD bytes at 0) tag && leb (contentEnd bytes at) (length bytes)
 
 unfoldable pub fieldAt : ℕ → List ℕ → ℕ → Found
-fieldAt tag data at = cond (isField tag data at) (Whole (contentEnd data at)) Faulty
+fieldAt tag bytes at = cond (isField tag bytes at) (Whole (contentEnd bytes at)) Faulty
 
 -- and its length is this one
 unfoldable pub isSized : ℕ → ℕ → List ℕ → ℕ → Bool
-isSized tag size data at = isField tag data at && eqb (lengthIn data at) size
+isSized tag size bytes at = isField tag bytes at && eqb (lengthIn bytes at) size

@@ -13,6 +13,9 @@ pub const HEAD: usize = 3;
 
 pub const LONGEST: usize = 65_535;
 
+// How many lengths two bytes can say.
+const LENGTHS: usize = 65_536;
+
 const BYTE: u32 = 256;
 
 // What the last three bytes of a count can say: a fourth one fits beside them.
@@ -50,11 +53,11 @@ pub fn put_count(bytes: &mut [u8], count: u32)
     }
 }
 
-// The field at a place, if it has this tag and lies in the data whole.
-pub fn field_at(data: &[u8], at: usize, tag: u8) -> Found
-    ensures { λ r. ⌜ r ≡ fieldAt tag (now (data .entry)) at ⌝ }
+// The field at a place, if it has this tag and lies in the bytes whole.
+pub fn field_at(bytes: &[u8], at: usize, tag: u8) -> Found
+    ensures { λ r. ⌜ r ≡ fieldAt tag (now (bytes .entry)) at ⌝ }
 {
-    let len = data.len();
+    let len = bytes.len();
     if len < HEAD {
         return Found::Faulty;
     }
@@ -62,27 +65,27 @@ pub fn field_at(data: &[u8], at: usize, tag: u8) -> Found
         return Found::Faulty;
     }
     let start = at + HEAD;
-    let length = count_in(&data[at + 1..start]) as usize;
-    if (data[at] != tag) | (len - start < length) {
+    let length = count_in(&bytes[at + 1..start]) as usize;
+    if (bytes[at] != tag) | (len - start < length) {
         return Found::Faulty;
     }
     Found::Whole(start + length)
 }
 
 // Whether a field of this tag and this length lies at a place, whole.
-pub fn is_sized(data: &[u8], at: usize, tag: u8, length: usize) -> bool
-    ensures { λ r. ⌜ r ≡ isSized tag length (now (data .entry)) at ⌝ }
+pub fn is_sized(bytes: &[u8], at: usize, tag: u8, length: usize) -> bool
+    ensures { λ r. ⌜ r ≡ isSized tag length (now (bytes .entry)) at ⌝ }
 {
-    let len = data.len();
-    if (len < HEAD) | (LONGEST < length) {
+    let len = bytes.len();
+    if len < HEAD {
         return false;
     }
     if len - HEAD < at {
         return false;
     }
     let start = at + HEAD;
-    let said = count_in(&data[at + 1..start]) as usize;
-    (data[at] == tag) & (said == length) & (length <= len - start)
+    let said = count_in(&bytes[at + 1..start]) as usize;
+    (bytes[at] == tag) & (said == length) & (length <= len - start)
 }
 
 // Puts a field, or nothing. Of a content that is too long the length says the lowest two bytes.
@@ -105,7 +108,7 @@ pub fn put_field(out: &mut [u8], p: Pen, tag: u8, content: &[u8]) -> Pen
     }
     let start = at + HEAD;
     out[at] = tag;
-    put_count(&mut out[at + 1..start], len as u32);
+    put_count(&mut out[at + 1..start], (len % LENGTHS) as u32);
     if len == 1 {
         out[start] = content[0];
         return Pen {

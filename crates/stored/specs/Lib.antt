@@ -1,3 +1,5 @@
 pub mod Form
 pub mod Reading
+pub mod Writing
+pub mod WritingExamples
 pub mod Examples

@@ -1,8 +1,8 @@
 -- What reading any bytes as a stored tree comes to (document 02, 2026-01), over any version of the form.
 use mathlib.Core.Path.{_≡_}
-use mathlib.Core.Bool.{Bool, cond, not, _&&_}
+use mathlib.Core.Bool.{Bool, true, cond, not, _&&_}
 use mathlib.Core.List.{List, [], _∷_}
-use Prim.Native.Nat.{ℕ, zero, suc, _+_, _*_}
+use Prim.Native.Nat.{ℕ, zero, suc, _+_, _*_, _^_, _≤_, _<_}
 use lib.Dec.{eqb, ltb}
 use lib.ListN.{length, getD, take, drop}
 use Rattle.lists.specs.Lists.{every}
@@ -32,23 +32,23 @@ countsAt = 4
 
 -- "26 at byte 3 if the first byte is 1 and byte 3 exists and is no known version, its length unlooked at"
 unfoldable pub isOtherVersion : Version → List ℕ → Bool
-isOtherVersion v data = ltb versionAt (length data) && eqb (getD data 0 0) headTag && not (eqb (getD data versionAt 0) (v .number))
+isOtherVersion v bytes = ltb versionAt (length bytes) && eqb (getD bytes 0 0) headTag && not (eqb (getD bytes versionAt 0) (v .number))
 
 abbrev pub nodesTold : ℕ → List ℕ → ℕ
-nodesTold w data = countIn (take w (drop countsAt data))
+nodesTold w bytes = countIn (take w (drop countsAt bytes))
 
 abbrev pub numbersTold : ℕ → List ℕ → ℕ
-numbersTold w data = countIn (take w (drop (countsAt + w) data))
+numbersTold w bytes = countIn (take w (drop (countsAt + w) bytes))
 
 abbrev pub countsRead : ℕ → List ℕ → Counts
-countsRead w data = record { nodes = nodesTold w data; numbers = numbersTold w data }
+countsRead w bytes = record { nodes = nodesTold w bytes; numbers = numbersTold w bytes }
 
 -- "1 over 1,048,576 bytes (place 1,048,576); 26 [..]; 25 a field cut, missing, extra or of wrong tag or length, at its tag"
 unfoldable pub headIn : Version → List ℕ → Head
-headIn v data =
-    cond (ltb (v .limit) (length data)) (head.Refused textTooLong (v .limit))
-    (cond (isOtherVersion v data) (head.Refused unknownVersion versionAt)
-    (cond (isSized headTag (headSize (v .width)) data 0) (head.Told (countsRead (v .width) data))
+headIn v bytes =
+    cond (ltb (v .limit) (length bytes)) (head.Refused textTooLong (v .limit))
+    (cond (isOtherVersion v bytes) (head.Refused unknownVersion versionAt)
+    (cond (isSized headTag (headSize (v .width)) bytes 0) (head.Told (countsRead (v .width) bytes))
     (head.Refused faultyField 0)))
 
 -- ---- fields one after the other: the place of the first that is faulty, or what they hold and the place after them
@@ -60,55 +60,61 @@ abbrev pub before : {X : Type 0} → X → Run X → Run X
 before x (faulty at) = faulty at
 before x (whole xs at) = whole (x ∷ xs) at
 
+-- n fields from `at` on, by what is right at a place, what a field there tells, and where the one after it stands
+unfoldable pub fieldsFrom : {X : Type 0} → (ℕ → Bool) → (ℕ → X) → (ℕ → ℕ) → ℕ → ℕ → Run X
+fieldsFrom right told next at zero = whole [] at
+fieldsFrom right told next at (suc n) = cond (right at) (before (told at) (fieldsFrom right told next (next at) n)) (faulty at)
+
 -- the row that a node field tells
 abbrev pub rowTold : ℕ → List ℕ → ℕ → Row
-rowTold w data at = row (getD data (at + headLength) 0) (getD data (at + headLength + 1) 0) (countIn (take w (drop (at + headLength + 2) data)))
+rowTold w bytes at = row (getD bytes (at + headLength) 0) (getD bytes (at + headLength + 1) 0) (countIn (take w (drop (at + headLength + 2) bytes)))
 
-unfoldable pub nodesFrom : ℕ → List ℕ → ℕ → ℕ → Run Row
-nodesFrom w data at zero = whole [] at
-nodesFrom w data at (suc n) = cond (isSized nodeTag (nodeSize w) data at) (before (rowTold w data at) (nodesFrom w data (at + headLength + nodeSize w) n)) (faulty at)
+abbrev pub nodeAfter : ℕ → ℕ → ℕ
+nodeAfter w at = at + headLength + nodeSize w
+
+abbrev pub nodesFrom : ℕ → List ℕ → ℕ → ℕ → Run Row
+nodesFrom w bytes = fieldsFrom (isSized nodeTag (nodeSize w) bytes) (rowTold w bytes) (nodeAfter w)
 
 -- "Spans read back point into the stored bytes."
 abbrev pub spanTold : List ℕ → ℕ → Span
-spanTold data at = spanOf data (at + headLength) (lengthIn data at)
+spanTold bytes at = spanOf bytes (at + headLength) (lengthIn bytes at)
 
-unfoldable pub numbersFrom : List ℕ → ℕ → ℕ → Run Span
-numbersFrom data at zero = whole [] at
-numbersFrom data at (suc n) = cond (isField numberTag data at) (before (spanTold data at) (numbersFrom data (contentEnd data at) n)) (faulty at)
+abbrev pub numbersFrom : List ℕ → ℕ → ℕ → Run Span
+numbersFrom bytes = fieldsFrom (isField numberTag bytes) (spanTold bytes) (contentEnd bytes)
 
 -- the place of the number field after n others
 unfoldable pub placeAfter : List ℕ → ℕ → ℕ → ℕ
-placeAfter data at zero = at
-placeAfter data at (suc n) = placeAfter data (contentEnd data at) n
+placeAfter bytes at zero = at
+placeAfter bytes at (suc n) = placeAfter bytes (contentEnd bytes at) n
 
 -- ---- what the fields after the head come to, with room for N node rows and M number rows
 -- "then 3 or 4 at the tag": of the first field without a row
 unfoldable pub roomed : ℕ → ℕ → ℕ → List ℕ → List Row → ℕ → List Span → Outcome
-roomed w N M data rs middle ss =
+roomed w N M bytes rs middle ss =
     cond (ltb N (length rs)) (refused noNodeRow (nodePlace w N))
-    (cond (ltb M (length ss)) (refused noNumberRow (placeAfter data middle M))
+    (cond (ltb M (length ss)) (refused noNumberRow (placeAfter bytes middle M))
     (filled rs ss))
 
--- "22", before any row is asked for: the rows that the fields tell, with the data as their text
+-- "22", before any row is asked for: the rows that the fields tell, with the bytes as their text
 unfoldable pub checked : ℕ → ℕ → ℕ → List ℕ → List Row → ℕ → List Span → Outcome
-checked w N M data rs middle ss = cond (wellFormed data (flatRows rs) (flatSpans ss)) (roomed w N M data rs middle ss) (refused illFormedStore 0)
+checked w N M bytes rs middle ss = cond (wellFormed bytes (flatRows rs) (flatSpans ss)) (roomed w N M bytes rs middle ss) (refused illFormedStore 0)
 
 -- "Nothing follows."
 abbrev pub afterNumbers : ℕ → ℕ → ℕ → List ℕ → List Row → ℕ → Run Span → Outcome
-afterNumbers w N M data rs middle (faulty at) = refused faultyField at
-afterNumbers w N M data rs middle (whole ss end) = cond (ltb end (length data)) (refused faultyField end) (checked w N M data rs middle ss)
+afterNumbers w N M bytes rs middle (faulty at) = refused faultyField at
+afterNumbers w N M bytes rs middle (whole ss end) = cond (ltb end (length bytes)) (refused faultyField end) (checked w N M bytes rs middle ss)
 
 abbrev pub afterNodes : ℕ → ℕ → ℕ → ℕ → List ℕ → Run Row → Outcome
-afterNodes w N M m data (faulty at) = refused faultyField at
-afterNodes w N M m data (whole rs middle) = afterNumbers w N M data rs middle (numbersFrom data middle m)
+afterNodes w N M m bytes (faulty at) = refused faultyField at
+afterNodes w N M m bytes (whole rs middle) = afterNumbers w N M bytes rs middle (numbersFrom bytes middle m)
 
 -- ---- reading
 abbrev pub afterHead : ℕ → ℕ → ℕ → List ℕ → Head → Outcome
-afterHead w N M data (head.Refused number place) = refused number place
-afterHead w N M data (head.Told c) = afterNodes w N M (c .numbers) data (nodesFrom w data (firstNode w) (c .nodes))
+afterHead w N M bytes (head.Refused number place) = refused number place
+afterHead w N M bytes (head.Told c) = afterNodes w N M (c .numbers) bytes (nodesFrom w bytes (firstNode w) (c .nodes))
 
 unfoldable pub readingOf : Version → ℕ → ℕ → List ℕ → Outcome
-readingOf v N M data = afterHead (v .width) N M data (headIn v data)
+readingOf v N M bytes = afterHead (v .width) N M bytes (headIn v bytes)
 
 -- ---- what private functions tell
 -- whether nodes are a tree that needs so many numbers; whether numbers are lexemes and nothing follows
@@ -117,29 +123,41 @@ nodesWell numbers (faulty at) = seen.Faulty at
 nodesWell numbers (whole rs at) = seen.Whole (isSome (meets numbers (above ∷ []) 0 0 rs)) at
 
 abbrev pub nodesSeen : ℕ → List ℕ → ℕ → ℕ → ℕ → Seen
-nodesSeen w data first count numbers = nodesWell numbers (nodesFrom w data first count)
+nodesSeen w bytes first count numbers = nodesWell numbers (nodesFrom w bytes first count)
 
 abbrev pub numbersWell : List ℕ → Run Span → Seen
-numbersWell data (faulty at) = seen.Faulty at
-numbersWell data (whole ss at) = cond (ltb at (length data)) (seen.Faulty at) (seen.Whole (every isLexeme (spanTexts ss)) at)
+numbersWell bytes (faulty at) = seen.Faulty at
+numbersWell bytes (whole ss at) = cond (ltb at (length bytes)) (seen.Faulty at) (seen.Whole (every isLexeme (spanTexts ss)) at)
 
 abbrev pub numbersSeen : List ℕ → ℕ → ℕ → Seen
-numbersSeen data first count = numbersWell data (numbersFrom data first count)
+numbersSeen bytes first count = numbersWell bytes (numbersFrom bytes first count)
 
--- so many fields from here on are right
-pub record RightNodes (w : ℕ) (data : List ℕ) (first count : ℕ) : Type 0 where
-  pub its-rows : List Row
+-- what is known once the head has told its counts
+pub record Headed (v : Version) (bytes : List ℕ) (c : Counts) : Type 0 where
+  pub narrow : v .width ≤ 4
+  pub short : length bytes < 2 ^ 32
+  pub told : firstNode (v .width) ≤ length bytes
+  pub counted : c .nodes < 2 ^ 32
+
+-- what its fields come to
+abbrev pub headedOf : Version → ℕ → ℕ → List ℕ → Counts → Outcome
+headedOf v N M bytes c = afterHead (v .width) N M bytes (head.Told c)
+
+-- its node fields were seen, with this answer
+abbrev pub NodesSeen : Version → List ℕ → Counts → Bool → ℕ → Type 0
+NodesSeen v bytes c well middle = nodesSeen (v .width) bytes (firstNode (v .width)) (c .nodes) (c .numbers) ≡ seen.Whole well middle
+
+-- its number fields were seen, and are all well
+pub record NumbersGood (bytes : List ℕ) (middle count : ℕ) : Type 0 where
   pub end : ℕ
-  pub are : nodesFrom w data first count ≡ whole its-rows end
+  pub seen : numbersSeen bytes middle count ≡ seen.Whole true end
 
-pub record RightNumbers (data : List ℕ) (first count : ℕ) : Type 0 where
-  pub its-spans : List Span
+-- the fields of a run are right
+pub record Right {X : Type 0} (r : Run X) : Type 0 where
+  pub items : List X
   pub end : ℕ
-  pub are : numbersFrom data first count ≡ whole its-spans end
+  pub are : r ≡ whole items end
 
--- a slice is filled with what they hold, and zeros after it
-pub record Filled (w : ℕ) (data : List ℕ) (first count : ℕ) (ns ns′ : List ℕ) : Type 0 where
-  pub put : (rs : List Row) (end : ℕ) → nodesFrom w data first count ≡ whole rs end → ns′ ≡ padded (flatRows rs) (length ns)
-
-pub record FilledNumbers (data : List ℕ) (first count : ℕ) (ms ms′ : List ℕ) : Type 0 where
-  pub put : (ss : List Span) (end : ℕ) → numbersFrom data first count ≡ whole ss end → ms′ ≡ padded (flatSpans ss) (length ms)
+-- a slice is filled with what they tell, as numbers, and zeros after it
+pub record Filled {X : Type 0} (flat : List X → List ℕ) (r : Run X) (slice slice′ : List ℕ) : Type 0 where
+  pub put : (xs : List X) (end : ℕ) → r ≡ whole xs end → slice′ ≡ padded (flat xs) (length slice)

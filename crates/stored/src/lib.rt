@@ -38,12 +38,12 @@ fn version_1() -> Version
     }
 }
 
-// Reads stored bytes of version 1 into rows of both slices. Spans point into `data`. Every place after the used rows is zero, and on a refusal every
+// Reads stored bytes of version 1 into rows of both slices. Spans point into `bytes`. Every place after the used rows is zero, and on a refusal every
 // place.
-pub fn read(data: &[u8], nodes: &mut [u32], numbers: &mut [u32]) -> ReadAnswer
-    ensures { λ a. ⌜ Leaves (readingOf version1 (nodeRoom (now (nodes .entry))) (numberRoom (now (numbers .entry))) (now (data .entry))) (now (nodes .entry)) (now (numbers .entry)) a (now (nodes .exit)) (now (numbers .exit)) ⌝ }
+pub fn read(bytes: &[u8], nodes: &mut [u32], numbers: &mut [u32]) -> ReadAnswer
+    ensures { λ a. ⌜ Leaves (readingOf version1 (nodeRoom (now (nodes .entry))) (numberRoom (now (numbers .entry))) (now (bytes .entry))) (now (nodes .entry)) (now (numbers .entry)) a (now (nodes .exit)) (now (numbers .exit)) ⌝ }
 {
-    reading::read_version(data, version_1(), nodes, numbers)
+    reading::read_version(bytes, version_1(), nodes, numbers)
 }
 
 // Writes a store as stored bytes of version 1; what lies after them in the room is zero.

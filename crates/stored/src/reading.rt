@@ -15,12 +15,13 @@ use shape::CELLS;
 use shape::Entered;
 use store::ReadAnswer;
 ghost use mathlib.Core.Path.{_≡_};
+ghost use mathlib.Core.Bool.{true};
 ghost use Prim.Native.Nat.{_≤_, _<_, _^_};
 ghost use lib.ListN.{length};
-ghost use Rattle.store.specs.Rows.{nodeRoom, numberRoom};
+ghost use Rattle.store.specs.Rows.{nodeRoom, numberRoom, flatRows, flatSpans};
 ghost use Rattle.store.specs.Answers.{Leaves};
-ghost use Rattle.stored.specs.Form.{Known, firstNode};
-ghost use Rattle.stored.specs.Reading.{headIn, nodesSeen, numbersSeen, placeAfter, RightNodes, RightNumbers, Filled, FilledNumbers, readingOf, countsRead};
+ghost use Rattle.stored.specs.Form.{Known};
+ghost use Rattle.stored.specs.Reading.{headIn, nodesFrom, numbersFrom, nodesSeen, numbersSeen, placeAfter, readingOf, headedOf, Headed, NodesSeen, NumbersGood, Right, Filled};
 
 // Where the version stands, and where the counts begin.
 const VERSION_AT: usize = 3;
@@ -48,37 +49,35 @@ enum Seen {
     Whole(bool, usize),
 }
 
-fn look_at_head(data: &[u8], v: Version) -> Head
+fn look_at_head(bytes: &[u8], v: Version) -> Head
     requires { ⌜ Known v ⌝ }
-    ensures { λ r. ⌜ r ≡ headIn v (now (data .entry)) ⌝ }
+    ensures { λ r. ⌜ r ≡ headIn v (now (bytes .entry)) ⌝ }
 {
-    let len = data.len();
+    let len = bytes.len();
     if v.limit < len {
         return Head::Refused(TEXT_TOO_LONG, v.limit);
     }
     if VERSION_AT < len {
-        if (data[0] == HEAD_TAG) & (data[VERSION_AT] != v.number) {
+        if (bytes[0] == HEAD_TAG) & (bytes[VERSION_AT] != v.number) {
             return Head::Refused(UNKNOWN_VERSION, VERSION_AT);
         }
     }
-    if !fields::is_sized(data, 0, HEAD_TAG, 1 + 2 * v.width) {
+    if !fields::is_sized(bytes, 0, HEAD_TAG, 1 + 2 * v.width) {
         return Head::Refused(FAULTY_FIELD, 0);
     }
     let middle = COUNTS_AT + v.width;
     let end = middle + v.width;
-    Head::Told(
-        Counts {
-            nodes: fields::count_in(&data[COUNTS_AT..middle]) as usize,
-            numbers: fields::count_in(&data[middle..end]) as usize,
-        },
-    )
+    Head::Told(Counts {
+        nodes: fields::count_in(&bytes[COUNTS_AT..middle]) as usize,
+        numbers: fields::count_in(&bytes[middle..end]) as usize,
+    })
 }
 
 // The `count` node fields from `first` on: whether they are one tree that needs `numbers` numbers. Fields after the one that makes it none are
 // still looked at: a faulty one is told first.
-fn look_at_nodes(data: &[u8], width: usize, first: usize, count: usize, numbers: usize) -> Seen
+fn look_at_nodes(bytes: &[u8], width: usize, first: usize, count: usize, numbers: usize) -> Seen
     requires { ⌜ (width ≤ 4) × (count < 2 ^ 32) ⌝ }
-    ensures { λ r. ⌜ r ≡ nodesSeen width (now (data .entry)) first count numbers ⌝ }
+    ensures { λ r. ⌜ r ≡ nodesSeen width (now (bytes .entry)) first count numbers ⌝ }
 {
     let mut cells = [0; CELLS];
     let mut w = shape::start(&mut cells);
@@ -86,7 +85,7 @@ fn look_at_nodes(data: &[u8], width: usize, first: usize, count: usize, numbers:
     let mut at = first;
     let mut i = 0;
     while i < count {
-        if !fields::is_sized(data, at, NODE_TAG, BEFORE_PARTS + width) {
+        if !fields::is_sized(bytes, at, NODE_TAG, BEFORE_PARTS + width) {
             return Seen::Faulty(at);
         }
         let content = at + HEAD;
@@ -97,9 +96,9 @@ fn look_at_nodes(data: &[u8], width: usize, first: usize, count: usize, numbers:
                 &mut cells,
                 numbers,
                 w,
-                data[content] as u32,
-                data[content + 1] as u32,
-                fields::count_in(&data[parts..end]),
+                bytes[content] as u32,
+                bytes[content + 1] as u32,
+                fields::count_in(&bytes[parts..end]),
             );
             match entered {
                 Entered::To(after) => {
@@ -117,49 +116,49 @@ fn look_at_nodes(data: &[u8], width: usize, first: usize, count: usize, numbers:
 }
 
 // The `count` number fields from `first` on, after which nothing may follow: whether each is a lexeme.
-fn look_at_numbers(data: &[u8], first: usize, count: usize) -> Seen
-    ensures { λ r. ⌜ r ≡ numbersSeen (now (data .entry)) first count ⌝ }
+fn look_at_numbers(bytes: &[u8], first: usize, count: usize) -> Seen
+    ensures { λ r. ⌜ r ≡ numbersSeen (now (bytes .entry)) first count ⌝ }
 {
     let mut good = true;
     let mut at = first;
     let mut i = 0;
     while i < count {
-        let found = fields::field_at(data, at, NUMBER_TAG);
+        let found = fields::field_at(bytes, at, NUMBER_TAG);
         let Found::Whole(end) = found else {
             return Seen::Faulty(at);
         };
         let start = at + HEAD;
-        let text = &data[start..end];
+        let text = &bytes[start..end];
         if !number::is_plain(text) {
             good = good & number::is_lexeme(text);
         }
         at = end;
         i += 1;
     }
-    if at < data.len() {
+    if at < bytes.len() {
         return Seen::Faulty(at);
     }
     Seen::Whole(good, at)
 }
 
 // The place of the number field after `count` others.
-fn place_after(data: &[u8], first: usize, count: usize) -> usize
-    requires { ⌜ RightNumbers (now data) first count ⌝ }
-    ensures { λ r. ⌜ r ≡ placeAfter (now (data .entry)) first count ⌝ }
+fn place_after(bytes: &[u8], first: usize, count: usize) -> usize
+    requires { ⌜ Right (numbersFrom (now bytes) first count) ⌝ }
+    ensures { λ r. ⌜ r ≡ placeAfter (now (bytes .entry)) first count ⌝ }
 {
     let mut at = first;
     let mut i = 0;
     while i < count {
         let start = at + HEAD;
-        at = start + (fields::count_in(&data[at + 1..start]) as usize);
+        at = start + (fields::count_in(&bytes[at + 1..start]) as usize);
         i += 1;
     }
     at
 }
 
-fn fill_nodes(data: &[u8], width: usize, first: usize, count: usize, nodes: &mut [u32])
-    requires { ⌜ (width ≤ 4) × (count ≤ nodeRoom (now nodes)) × RightNodes width (now data) first count ⌝ }
-    ensures { λ _. ⌜ Filled width (now (data .entry)) first count (now (nodes .entry)) (now (nodes .exit)) ⌝ }
+fn fill_nodes(bytes: &[u8], width: usize, first: usize, count: usize, nodes: &mut [u32])
+    requires { ⌜ (width ≤ 4) × (count ≤ nodeRoom (now nodes)) × Right (nodesFrom width (now bytes) first count) ⌝ }
+    ensures { λ _. ⌜ Filled flatRows (nodesFrom width (now (bytes .entry)) first count) (now (nodes .entry)) (now (nodes .exit)) ⌝ }
 {
     let mut at = first;
     let mut i = 0;
@@ -170,9 +169,9 @@ fn fill_nodes(data: &[u8], width: usize, first: usize, count: usize, nodes: &mut
         store::put_row(
             nodes,
             i,
-            data[content] as u32,
-            data[content + 1] as u32,
-            fields::count_in(&data[parts..end]),
+            bytes[content] as u32,
+            bytes[content + 1] as u32,
+            fields::count_in(&bytes[parts..end]),
         );
         at = end;
         i += 1;
@@ -180,15 +179,15 @@ fn fill_nodes(data: &[u8], width: usize, first: usize, count: usize, nodes: &mut
     store::clear(nodes, store::node_places(nodes, count));
 }
 
-fn fill_numbers(data: &[u8], first: usize, count: usize, numbers: &mut [u32])
-    requires { ⌜ (length (now data) < 2 ^ 32) × (count ≤ numberRoom (now numbers)) × RightNumbers (now data) first count ⌝ }
-    ensures { λ _. ⌜ FilledNumbers (now (data .entry)) first count (now (numbers .entry)) (now (numbers .exit)) ⌝ }
+fn fill_numbers(bytes: &[u8], first: usize, count: usize, numbers: &mut [u32])
+    requires { ⌜ (length (now bytes) < 2 ^ 32) × (count ≤ numberRoom (now numbers)) × Right (numbersFrom (now bytes) first count) ⌝ }
+    ensures { λ _. ⌜ Filled flatSpans (numbersFrom (now (bytes .entry)) first count) (now (numbers .entry)) (now (numbers .exit)) ⌝ }
 {
     let mut at = first;
     let mut i = 0;
     while i < count {
         let start = at + HEAD;
-        let length = fields::count_in(&data[at + 1..start]);
+        let length = fields::count_in(&bytes[at + 1..start]);
         store::put_number(numbers, i, start as u32, length);
         at = start + (length as usize);
         i += 1;
@@ -198,13 +197,15 @@ fn fill_numbers(data: &[u8], first: usize, count: usize, numbers: &mut [u32])
 
 // Rows for fields that are a tree, their number fields from `middle` on.
 fn fill(
-    data: &[u8],
+    bytes: &[u8],
     v: Version,
     c: Counts,
     middle: usize,
     nodes: &mut [u32],
     numbers: &mut [u32],
 ) -> ReadAnswer
+    requires { ⌜ Headed v (now bytes) c × NodesSeen v (now bytes) c true middle × NumbersGood (now bytes) middle (c .numbers) ⌝ }
+    ensures { λ a. ⌜ Leaves (headedOf v (nodeRoom (now (nodes .entry))) (numberRoom (now (numbers .entry))) (now (bytes .entry)) c) (now (nodes .entry)) (now (numbers .entry)) a (now (nodes .exit)) (now (numbers .exit)) ⌝ }
 {
     let first = COUNTS_AT + 2 * v.width;
     let room = store::node_room(nodes);
@@ -214,11 +215,11 @@ fn fill(
     }
     let number_room = store::number_room(numbers);
     if number_room < c.numbers {
-        let place = place_after(data, middle, number_room);
+        let place = place_after(bytes, middle, number_room);
         return store::refuse(nodes, numbers, NO_NUMBER_ROW, place);
     }
-    fill_nodes(data, v.width, first, c.nodes, nodes);
-    fill_numbers(data, middle, c.numbers, numbers);
+    fill_nodes(bytes, v.width, first, c.nodes, nodes);
+    fill_numbers(bytes, middle, c.numbers, numbers);
     ReadAnswer {
         number: 0,
         place: 0,
@@ -229,7 +230,7 @@ fn fill(
 
 // The fields after a head that tells of `c`, their number fields from `middle` on; `well` says whether the nodes are a tree.
 fn read_numbers(
-    data: &[u8],
+    bytes: &[u8],
     v: Version,
     c: Counts,
     well: bool,
@@ -237,36 +238,51 @@ fn read_numbers(
     nodes: &mut [u32],
     numbers: &mut [u32],
 ) -> ReadAnswer
+    requires { ⌜ Headed v (now bytes) c × NodesSeen v (now bytes) c well middle ⌝ }
+    ensures { λ a. ⌜ Leaves (headedOf v (nodeRoom (now (nodes .entry))) (numberRoom (now (numbers .entry))) (now (bytes .entry)) c) (now (nodes .entry)) (now (numbers .entry)) a (now (nodes .exit)) (now (numbers .exit)) ⌝ }
 {
-    let seen = look_at_numbers(data, middle, c.numbers);
+    let seen = look_at_numbers(bytes, middle, c.numbers);
     match seen {
         Seen::Faulty(at) => store::refuse(nodes, numbers, FAULTY_FIELD, at),
         Seen::Whole(good, _) => {
             if !(well & good) {
                 return store::refuse(nodes, numbers, ILL_FORMED_STORE, 0);
             }
-            fill(data, v, c, middle, nodes, numbers)
+            fill(bytes, v, c, middle, nodes, numbers)
         }
     }
 }
 
-fn read_nodes(data: &[u8], v: Version, c: Counts, nodes: &mut [u32], numbers: &mut [u32]) -> ReadAnswer
+fn read_nodes(
+    bytes: &[u8],
+    v: Version,
+    c: Counts,
+    nodes: &mut [u32],
+    numbers: &mut [u32],
+) -> ReadAnswer
+    requires { ⌜ Headed v (now bytes) c ⌝ }
+    ensures { λ a. ⌜ Leaves (headedOf v (nodeRoom (now (nodes .entry))) (numberRoom (now (numbers .entry))) (now (bytes .entry)) c) (now (nodes .entry)) (now (numbers .entry)) a (now (nodes .exit)) (now (numbers .exit)) ⌝ }
 {
     let first = COUNTS_AT + 2 * v.width;
-    let seen = look_at_nodes(data, v.width, first, c.nodes, c.numbers);
+    let seen = look_at_nodes(bytes, v.width, first, c.nodes, c.numbers);
     match seen {
         Seen::Faulty(at) => store::refuse(nodes, numbers, FAULTY_FIELD, at),
-        Seen::Whole(well, middle) => read_numbers(data, v, c, well, middle, nodes, numbers),
+        Seen::Whole(well, middle) => read_numbers(bytes, v, c, well, middle, nodes, numbers),
     }
 }
 
-pub(crate) fn read_version(data: &[u8], v: Version, nodes: &mut [u32], numbers: &mut [u32]) -> ReadAnswer
+pub(crate) fn read_version(
+    bytes: &[u8],
+    v: Version,
+    nodes: &mut [u32],
+    numbers: &mut [u32],
+) -> ReadAnswer
     requires { ⌜ Known v ⌝ }
-    ensures { λ a. ⌜ Leaves (readingOf v (nodeRoom (now (nodes .entry))) (numberRoom (now (numbers .entry))) (now (data .entry))) (now (nodes .entry)) (now (numbers .entry)) a (now (nodes .exit)) (now (numbers .exit)) ⌝ }
+    ensures { λ a. ⌜ Leaves (readingOf v (nodeRoom (now (nodes .entry))) (numberRoom (now (numbers .entry))) (now (bytes .entry))) (now (nodes .entry)) (now (numbers .entry)) a (now (nodes .exit)) (now (numbers .exit)) ⌝ }
 {
-    let head = look_at_head(data, v);
+    let head = look_at_head(bytes, v);
     match head {
         Head::Refused(number, place) => store::refuse(nodes, numbers, number, place),
-        Head::Told(c) => read_nodes(data, v, c, nodes, numbers),
+        Head::Told(c) => read_nodes(bytes, v, c, nodes, numbers),
     }
 }
