@@ -7,8 +7,7 @@ use records::parts::SECOND;
 use records::parts::THIRD;
 use records::parts::behind;
 use records::parts::field;
-use records::slices::MAX_ROWS;
-use records::slices::Slices;
+use records::slices::MAX_SLICE;
 use records::slices::load;
 
 fn write_and_put(
@@ -25,19 +24,23 @@ fn write_and_put(
 
 // The line of a record of this letter.
 pub(crate) fn answer(record: &[u8], out: &mut [u8], at: usize) -> usize {
-    let mut rows = [0u32; MAX_ROWS];
-    let mut output = [u8::MAX; MAX_OUTPUT];
     let bytes = field(record, SECOND);
+    if MAX_OUTPUT < bytes {
+        return put_bad_record(out, at);
+    }
+    let mut nodes = [0u32; MAX_SLICE];
+    let mut numbers = [0u32; MAX_SLICE];
+    let mut output = [u8::MAX; MAX_OUTPUT];
     let slices = behind(record, THIRD);
-    let brought = load(slices, &mut rows);
-    if brought.fit & (bytes <= MAX_OUTPUT) {
+    let brought = load(slices, &mut nodes, &mut numbers);
+    if brought.fit {
         let text = brought.text;
-        let nodes = brought.nodes;
-        let places = nodes + brought.numbers;
+        let node_places = brought.nodes;
+        let number_places = brought.numbers;
         write_and_put(
             &slices[text..],
-            &rows[0..nodes],
-            &rows[nodes..places],
+            &nodes[0..node_places],
+            &numbers[0..number_places],
             &mut output[0..bytes],
             out,
             at,
