@@ -1,7 +1,5 @@
-// Answers the records on standard input, a line each, by calls of the proved functions. A record is a u32
-// (little-endian, as every number here) with the count of the bytes that follow it, and those bytes: a letter,
-// the letter's fields as u32 each, its rows as u32 each, and what is left. A letter has an arm in `answer`, its limits in
-// records.rt, and a file:
+// Answers the records on standard input, a line each, by calls of the proved functions (records: what a record is). A letter has an arm in `answer`
+// and a file:
 //
 //   t, p  tokens.rt
 //   r     reading.rt
@@ -14,38 +12,27 @@
 mod checking;
 mod found;
 mod inferred;
-mod input;
-mod lines;
-mod numbers;
 mod reading;
-mod records;
-mod rows;
 mod tokens;
 mod writing;
 
-use console::U32_BYTES;
-use input::State;
-use input::refill;
-use numbers::field;
 use printing::flush;
-use printing::least;
-use printing::put;
+use records::input::Front;
+use records::input::INPUT_BYTES;
+use records::input::OUT_BYTES;
+use records::input::State;
+use records::input::at_front;
+use records::input::put_cut_record;
+use records::input::refill;
+use records::lines::put_bad_record;
 use tokens::Asking;
-
-// Holds the largest record that a letter may have: two slices of 98,304 u32, a text, and some fields. A larger
-// one is passed over.
-const INPUT_BYTES: usize = 1_048_576;
-
-const OUT_BYTES: usize = 65_536;
-
-// Puts the whole line of a record that has no answer.
-fn put_bad_record(out: &mut [u8], at: usize) -> usize {
-    put(out, at, b"bad record\n")
-}
 
 // The line of a record, given what follows its count.
 fn answer(record: &[u8], out: &mut [u8], at: usize) -> usize {
-    match records::letter(record) {
+    if record.len() == 0 {
+        return put_bad_record(out, at);
+    }
+    match record[0] {
         b't' => tokens::answer(record, Asking::Take, out, at),
         b'p' => tokens::answer(record, Asking::LookAndTake, out, at),
         b'r' => reading::answer(record, out, at),
@@ -58,35 +45,19 @@ fn answer(record: &[u8], out: &mut [u8], at: usize) -> usize {
 
 // Answers the record at the front of the unread input if it is there whole, and else reads on.
 fn turn(input: &mut [u8], out: &mut [u8], mut s: State) -> State {
-    let have = least(s.have, input.len());
-    let from = least(s.from, have);
-    let at = s.at;
-    if have - from < U32_BYTES {
-        return refill(input, s);
-    }
-    let start = from + U32_BYTES;
-    let count = field(input, from);
-    if input.len() - U32_BYTES < count {
-        s.at = put_bad_record(out, at);
-        s.from = have;
-        s.skip = count - (have - start);
-        return s;
-    }
-    if have - start < count {
-        return refill(input, s);
-    }
-    let end = start + count;
-    s.at = answer(&input[start..end], out, at);
-    s.from = end;
-    s
-}
-
-// What is left unread when the input has ended is a record that was cut.
-fn put_cut_record(out: &mut [u8], s: State) -> usize {
-    if s.from < s.have {
-        put_bad_record(out, s.at)
-    } else {
-        s.at
+    match at_front(input, s) {
+        Front::Whole(start, end) => {
+            s.at = answer(&input[start..end], out, s.at);
+            s.from = end;
+            s
+        },
+        Front::TooLarge(skip) => {
+            s.at = put_bad_record(out, s.at);
+            s.from = s.have;
+            s.skip = skip;
+            s
+        },
+        Front::Cut => refill(input, s),
     }
 }
 

@@ -1,21 +1,21 @@
 // The letters `t` and `p`: a cursor is put at a place of a text, and so many tokens are taken. Fields: place, count.
 use crate::found::same;
-use crate::lines::put_end;
-use crate::lines::put_space;
-use crate::numbers::field;
-use crate::records::FIRST_FIELD;
-use crate::records::SECOND_FIELD;
-use crate::records::TEXT_AFTER_TWO;
-use printing::least;
 use printing::put;
+use records::lines::put_bad_record;
+use records::parts::FIRST;
+use records::parts::SECOND;
+use records::parts::THIRD;
+use records::parts::behind;
+use records::parts::field;
+use records::parts::has_text;
 use shown_tokens::put_found;
 use tokenizer::Cursor;
 use tokenizer::Found;
 
 // Where the fields stand in a record.
-const PLACE: usize = FIRST_FIELD;
+const PLACE: usize = FIRST;
 
-const COUNT: usize = SECOND_FIELD;
+const COUNT: usize = SECOND;
 
 pub(crate) enum Asking {
     // Letter `t`.
@@ -97,7 +97,7 @@ fn put_tokens(
         cursor = asked.next;
         left -= 1;
         if left > 0 {
-            end = put_space(out, end);
+            end = put(out, end, b" ");
         }
     }
     end
@@ -105,15 +105,12 @@ fn put_tokens(
 
 // The line of a record of one of these letters.
 pub(crate) fn answer(record: &[u8], asking: Asking, out: &mut [u8], at: usize) -> usize {
-    let text = least(TEXT_AFTER_TWO, record.len());
-    let cursor = Cursor::new(field(record, PLACE));
-    let end = put_tokens(
-        &record[text..],
-        cursor,
-        field(record, COUNT),
-        asking,
-        out,
-        at,
-    );
-    put_end(out, end)
+    if has_text(record, THIRD) {
+        let cursor = Cursor::new(field(record, PLACE));
+        let count = field(record, COUNT);
+        let end = put_tokens(behind(record, THIRD), cursor, count, asking, out, at);
+        put(out, end, b"\n")
+    } else {
+        put_bad_record(out, at)
+    }
 }

@@ -7,10 +7,10 @@ use Rattle.replay.proofs.tokens.put_tokens.Statement.{statement}
 use Rattle.replay.proofs.tokens.put_tokens.Tie as tie
 
 abbrev Inv-loop : tie.InvT-loop
-Inv-loop text count asking out₀ at cursor₀ left₀ end₀ out cursor left end = length out ≡ length out₀
+Inv-loop text count asking out₀ at cursor₀ left₀ end₀ t11 out cursor left end = length out ≡ length out₀
 
 abbrev μ-loop : tie.MeasureT-loop
-μ-loop text count asking out₀ at cursor₀ left₀ end₀ out cursor left end = left
+μ-loop text count asking out₀ at cursor₀ left₀ end₀ t11 out cursor left end = left
 
 loop-holds : tie.Need-loop-holds Inv-loop μ-loop
 loop-holds c = search needs
@@ -24,8 +24,11 @@ put-asked-requires c κs = search needs
 sub-left : tie.Need-sub-left Inv-loop μ-loop
 sub-left c = search needs
 
-put-space-requires : tie.Need-put-space-requires Inv-loop μ-loop
-put-space-requires c κs = search needs
+slice-aggregate-put : tie.Need-slice-aggregate-put Inv-loop μ-loop
+slice-aggregate-put c = search needs
+
+put-requires : tie.Need-put-requires Inv-loop μ-loop
+put-requires c κs = search needs
 
 loop-less : tie.Need-loop-less Inv-loop μ-loop
 loop-less c = search needs
@@ -55,7 +58,8 @@ put-tokens-spec =
     ask-one-requires
     put-asked-requires
     sub-left
-    put-space-requires
+    slice-aggregate-put
+    put-requires
     loop-less
     loop-again
     loop-less-2
