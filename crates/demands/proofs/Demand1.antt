@@ -36,13 +36,14 @@ use Rattle.grammar.proofs.Fuel.{reading-refusals, reading-halts, reading-kept}
 use Rattle.store.specs.declared.ReadAnswer.{ReadAnswer}
 use Rattle.wkt.specs.Leaves as read
 use Rattle.wkt.specs.Leaves.{Leaves}
-use Rattle.shape.specs.declared.Visit.{Visit}
-use Rattle.shape.specs.declared.Frame.{Frame}
-use Rattle.shape.specs.declared.Met.{Met}
-use Rattle.shape.specs.declared.Met.the-variants as met
-use Rattle.shape.specs.Nodes.{noKind, above, visitOf, numbersOf, isLeaf, isAllowed, mayOpen, frameOf, onward, isSpent, nodeEnd, nodeEnds, stillOpen, follow, atLast, meetsNode, meetsRows, meets}
+use Rattle.lists.specs.Options.{mapO}
+use Rattle.nodes.specs.declared.Visit.{Visit}
+use Rattle.nodes.specs.declared.Frame.{Frame}
+use Rattle.nodes.specs.declared.Met.{Met}
+use Rattle.nodes.specs.declared.Met.the-variants as met
+use Rattle.nodes.specs.Nodes.{noKind, above, visitOf, numbersOf, isLeaf, isAllowed, mayOpen, frameOf, onward, isSpent, nodeEnd, nodeEnds, stillOpen, follow, atLast, meetsNode, meetsRows, meets}
 use Rattle.shape.specs.Numbers.{areNumbers}
-use Rattle.shape.specs.Store.{allRows, areWhole, treeOf, wellFormed, mapO, walkOf}
+use Rattle.shape.specs.Store.{allRows, areWhole, treeOf, wellFormed, walkOf}
 use Rattle.shape.proofs.Stores.{walk-of, well-by-walk}
 use Rattle.refusals.specs.Refusals.{illFormedStore, noRoom}
 use Rattle.tree.specs.Tree.{Tree}

@@ -28,7 +28,8 @@ use Rattle.grammar.proofs.Fuel.{reading-kept}
 use Rattle.store.specs.declared.ReadAnswer.{ReadAnswer}
 use Rattle.store.specs.Answers.{usedRows, usedSpans, leaves-one}
 use Rattle.wkt.specs.Leaves.{Leaves, outcomeOf, answerOf, rootIn}
-use Rattle.shape.specs.Store.{mapO, treeOf}
+use Rattle.lists.specs.Options.{mapO}
+use Rattle.shape.specs.Store.{treeOf}
 use Rattle.to_wkt.specs.Canonical.{storeText}
 use Rattle.demands.specs.Calls.{Read, usedNodes, usedNumbers}
 use Rattle.demands.specs.Demand2.{ReadsAsGrammar, Counted, NumberTexts, ReadsEdge, EveryEdge, Left, Reader, Meets, OneReader, RefusesAll, FixedTree, FirstChildOnly, ShutsOut}

@@ -18,7 +18,8 @@ use Rattle.store.specs.Answers as output
 use Rattle.store.specs.Answers.{Outcome, filled, refused, Output, refusal, Leaves, leaves-one, wrote, writeAnswer, roomAfter, writes-one}
 use Rattle.tree.specs.Tree.{Tree, rows, texts}
 use Rattle.tree.specs.TreeIn.{spanText}
-use Rattle.shape.specs.Store.{treeOf, wellFormed, mapO}
+use Rattle.lists.specs.Options.{mapO}
+use Rattle.shape.specs.Store.{treeOf, wellFormed}
 use Rattle.shape.proofs.Stores.{grown, is-well-formed, is-tree, store-tree}
 use Rattle.shape.proofs.Slices.{used-rows, used-spans, same-store}
 use Rattle.form.specs.Form.{KeepsTrees, WriteCall, Filled, Lawful}

@@ -21,9 +21,9 @@ use Rattle.grammar.specs.Answers.{isRefusal, isHalt}
 use Rattle.grammar.specs.Grammar.{out}
 use Rattle.store.specs.declared.ReadAnswer.{ReadAnswer}
 use Rattle.lists.specs.Lists.{All}
-use Rattle.shape.specs.declared.Visit.{Visit}
-use Rattle.shape.specs.declared.Met.{Met}
-use Rattle.shape.specs.declared.Met.the-variants.{Node}
+use Rattle.nodes.specs.declared.Visit.{Visit}
+use Rattle.nodes.specs.declared.Met.{Met}
+use Rattle.nodes.specs.declared.Met.the-variants.{Node}
 use Rattle.shape.specs.Store.{wellFormed, walkOf}
 use Rattle.refusals.specs.Refusals.{illFormedStore, noRoom}
 use Rattle.strict.specs.declared.StrictAnswer.{StrictAnswer}

@@ -8,8 +8,9 @@ use Prim.Native.Nat.{ℕ, _%_}
 use lib.Dec.{eqb}
 use lib.ListN.{length}
 use Rattle.store.specs.Rows.{nodeWidth, numberWidth, numberRoom}
+use Rattle.lists.specs.Options.{isSome}
 use Rattle.shape.specs.Numbers.{areNumbers}
-use Rattle.shape.specs.Store.{areWhole, isSome, wellFormed, walkOf}
+use Rattle.shape.specs.Store.{areWhole, wellFormed, walkOf}
 use Rattle.shape.specs.Walk.{areRows, wholeWalk}
 use Rattle.shape.proofs.Stores.{walk-of, well-by-walk}
 

@@ -10,17 +10,18 @@ use Prim.Native.Nat.{ℕ, _+_, _^_, _≤_, _<_}
 use native.Mathlib.Omega.{arith}
 use lib.ListN.{length}
 use Rattle.store.specs.Rows.{Row, nodeRoom, rowAt}
-use Rattle.shape.specs.declared.Walk.{Walk}
-use Rattle.shape.specs.declared.Walked.{Walked}
-use Rattle.shape.specs.declared.Met.{Met}
-use Rattle.shape.specs.declared.Met.the-variants as met
-use Rattle.shape.specs.declared.Entered.{Entered}
-use Rattle.shape.specs.declared.Entered.the-variants.{To, Ill}
-use Rattle.shape.specs.Nodes.{follow}
-use Rattle.shape.specs.Store.{isSome}
-use Rattle.shape.specs.Walk.{cells, After, beginning, entering, hasEnded, walkStep, rowsFrom, aheadBy, ahead, wholeWalk}
-use Rattle.shape.proofs.Trees.{follow-none, follow-both}
-use Rattle.shape.proofs.Fed.{Reached, given-begin, given-to, given-ill, given-last}
+use Rattle.lists.specs.Options.{isSome}
+use Rattle.nodes.specs.declared.Met.{Met}
+use Rattle.nodes.specs.declared.Met.the-variants as met
+use Rattle.nodes.specs.Nodes.{follow}
+use Rattle.nodes.proofs.Meets.{follow-none, follow-both}
+use Rattle.walk.specs.declared.Walk.{Walk}
+use Rattle.walk.specs.declared.Walked.{Walked}
+use Rattle.walk.specs.declared.Entered.{Entered}
+use Rattle.walk.specs.declared.Entered.the-variants.{To, Ill}
+use Rattle.walk.specs.Walk.{cells, After, beginning, entering, hasEnded, walkStep, aheadBy}
+use Rattle.walk.proofs.Fed.{Reached, given-begin, given-to, given-ill, given-last}
+use Rattle.shape.specs.Walk.{rowsFrom, ahead, wholeWalk}
 use Rattle.shape.proofs.Stepped.{rows-in, rows-past, Forward, SteppedTo, Stepped, stepped}
 
 pub record Walking (nodes : List ℕ) (count : ℕ) (s : List ℕ) (w : Walk) (P : List Met → Type 0) : Type 0 where

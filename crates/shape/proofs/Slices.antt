@@ -20,10 +20,11 @@ use Rattle.tree.proofs.TreeIn.{same-tree}
 use Rattle.lists.specs.Lists.{every, All}
 use Rattle.tree.specs.TreeIn.{SpanIn}
 use Rattle.lists.proofs.Cases.{and-both}
-use Rattle.shape.specs.declared.Met.{Met}
-use Rattle.shape.specs.Nodes.{above, meets}
+use Rattle.lists.specs.Options.{isSome}
+use Rattle.nodes.specs.declared.Met.{Met}
+use Rattle.nodes.specs.Nodes.{above, meets}
 use Rattle.shape.specs.Numbers.{isNumber, areNumbers}
-use Rattle.shape.specs.Store.{allRows, allSpans, allTexts, areWhole, treeOf, isSome, wellFormed}
+use Rattle.shape.specs.Store.{allRows, allSpans, allTexts, areWhole, treeOf, wellFormed}
 use Rattle.shape.proofs.Stores.{walk-of, well-by-walk, all-snoc, texts-count, StoreTree, store-tree, is-tree}
 
 spans-wide : (ss : List Span) → length (flatSpans ss) ≡ length ss * numberWidth

@@ -9,17 +9,18 @@ use native.Mathlib.Omega.{arith}
 use lib.Dec.{eqb, leb, ltb}
 use borrow.Author.Tests.{ne-eqb, leb-true, leb-false, ltb-true, ltb-false, eqb-true, eqb-false}
 use Rattle.store.specs.Rows.{nodeRoom, rowAt, rowsIn}
-use Rattle.shape.specs.declared.Frame.{Frame}
-use Rattle.shape.specs.declared.Walk.{Walk}
-use Rattle.shape.specs.declared.Met.{Met}
-use Rattle.shape.specs.declared.Met.the-variants.{Node, End, Done, Ill}
-use Rattle.shape.specs.declared.Coming.the-variants as coming
-use Rattle.shape.specs.Nodes.{noKind, visitOf, isSpent, nodeEnd, nodeEnds, stillOpen, follow, atLast, meetsRows, meets}
-use Rattle.shape.specs.Walk.{frames, frameAt, walkAt, walked, After, ill, comingIn, comingNext, meeting, lastMet, stepAt, walkStep, rowsFrom, openAt, aheadBy, ahead, NumbersIn}
-use Rattle.shape.proofs.Stack.{firsts-cut, firsts-past, openFrom}
-use Rattle.shape.proofs.Trees.{follow-both}
-use Rattle.shape.proofs.Nested.{nested-outer, outermost}
-use Rattle.shape.proofs.Fed.{Reached, MetTo, cut, nested-cut, wanted, met-row}
+use Rattle.nodes.specs.declared.Frame.{Frame}
+use Rattle.nodes.specs.declared.Met.{Met}
+use Rattle.nodes.specs.declared.Met.the-variants.{Node, End, Done, Ill}
+use Rattle.nodes.specs.Nodes.{noKind, visitOf, isSpent, nodeEnd, nodeEnds, stillOpen, follow, atLast, meetsRows, meets}
+use Rattle.nodes.proofs.Meets.{follow-both}
+use Rattle.walk.specs.declared.Walk.{Walk}
+use Rattle.walk.specs.declared.Coming.the-variants as coming
+use Rattle.walk.specs.Walk.{frames, frameAt, walkAt, walked, After, ill, comingIn, comingNext, meeting, lastMet, stepAt, walkStep, openAt, aheadBy, NumbersIn}
+use Rattle.walk.proofs.Stack.{firsts-cut, firsts-past, openFrom}
+use Rattle.walk.proofs.Nested.{nested-outer, outermost}
+use Rattle.walk.proofs.Fed.{Reached, MetTo, cut, nested-cut, wanted, met-row}
+use Rattle.shape.specs.Walk.{rowsFrom, ahead}
 
 -- ---- rows that are left
 module _ (nodes : List ℕ) (i : ℕ) where

@@ -19,9 +19,10 @@ use Rattle.store.proofs.Rows.{spans-length}
 use Rattle.tree.specs.Tree.{Tree, Lexeme, rows, texts, GoodTree}
 use Rattle.tree.specs.TreeIn.{SpanIn, spanText, treeIn}
 use Rattle.tree.proofs.TreeIn.{TreesOwn, trees-own, span-lexemes}
-use Rattle.shape.specs.Nodes.{above, meets}
+use Rattle.lists.specs.Options.{isSome, mapO}
+use Rattle.nodes.specs.Nodes.{above, meets}
 use Rattle.shape.specs.Numbers.{isNumber, areNumbers}
-use Rattle.shape.specs.Store.{allRows, allSpans, allTexts, areWhole, treeOf, isSome, wellFormed, mapO, walkRoot, walkOf}
+use Rattle.shape.specs.Store.{allRows, allSpans, allTexts, areWhole, treeOf, wellFormed, walkRoot, walkOf}
 use Rattle.shape.specs.IsTree.{IsTree}
 use Rattle.shape.proofs.Trees.{walk-is-tree}
 

@@ -3,8 +3,8 @@
 -- Assumes nothing.
 use mathlib.Core.Path.{_≡_, refl, ap, sym, _∙_}
 use mathlib.Core.Bool.{Bool, true, false, cond, not, _&&_, _||_}
-use mathlib.Core.Option.{Option, none, some}
-use mathlib.Core.List.{List, [], _∷_, _++_, flatMap, append-assoc, append-nil}
+use mathlib.Core.Option.{Option, none}
+use mathlib.Core.List.{List, [], _∷_, _++_, flatMap, append-nil}
 use Prim.Native.Nat.{ℕ, zero, suc, _+_, _-_, _*_, _≤_, _<_}
 use native.Mathlib.Omega.{arith}
 use native.Mathlib.Nat.{suc-mul}
@@ -18,21 +18,14 @@ use Rattle.lists.specs.Lists.{All}
 use Rattle.tree.specs.Tree.{Coord, Node, pointN, lineN, polygonN, multipointN, multilineN, multipolygonN, collectionN, Tree, rowsWith, noRows, pointRows, lineRows, polygonRows, nodeRows, rows, coordTexts, lineTexts, polygonTexts, nodeTexts, noTexts, texts, CoordShape, LineShape, PolygonShape, Shape}
 use Rattle.tree.specs.TreeIn.{Front, ill, front, Finder, onFront, asA, findNone, times, findText, findCoord, findRow, findLine, findPolygon, exactlyOne, findPoint, atMostOne, findParts, findNode, findTree, whole, treeIn}
 use Rattle.tree.proofs.TreeIn.{FoundAs, Is, Sound, ExactlyAll, coord-sound, times-sound, line-sound, polygon-sound, point-sound, tree-sound}
-use Rattle.shape.specs.declared.Frame.{Frame}
-use Rattle.shape.specs.declared.Met.{Met}
-use Rattle.shape.specs.declared.Met.the-variants as met
-use Rattle.shape.specs.Nodes.{noKind, frame, above, visitOf, numbersOf, isLeaf, isFree, childKind, isAllowed, mayOpen, frameOf, onward, isSpent, nodeEnd, nodeEnds, stillOpen, follow, atLast, meetsNode, meetsRows, meets}
+use Rattle.lists.specs.Options.{mapO}
+use Rattle.nodes.specs.declared.Frame.{Frame}
+use Rattle.nodes.specs.declared.Met.{Met}
+use Rattle.nodes.specs.declared.Met.the-variants as met
+use Rattle.nodes.specs.Nodes.{noKind, frame, above, visitOf, numbersOf, isLeaf, isFree, childKind, isAllowed, mayOpen, frameOf, onward, nodeEnd, nodeEnds, stillOpen, follow, atLast, meetsNode, meetsRows, meets}
+use Rattle.nodes.proofs.Meets.{follow-none, follow-both, meets-open, meets-spent}
 use Rattle.shape.specs.Visits.{Walker, walkEach, walkLeaf, walkParts, walkNest, walkPoint, walkLine, walkPolygon, walkNode, walkNothing, walkTree}
-use Rattle.shape.specs.Store.{mapO, walkRoot}
-
--- ---- some things are met, and then others
-pub follow-none : (o : Option (List Met)) → follow [] o ≡ o
-follow-none none = refl
-follow-none (some ms) = refl
-
-pub follow-both : (a b : List Met) (o : Option (List Met)) → follow (a ++ b) o ≡ follow a (follow b o)
-follow-both a b none = refl
-follow-both a b (some ms) = ap some (append-assoc a b ms)
+use Rattle.shape.specs.Store.{walkRoot}
 
 -- what stood in front of rows is met, and then what comes after it
 unfoldable thenMeet : {X : Type 0} → Front X → (X → List Met) → (X → List Row → Option (List Met)) → Option (List Met)
@@ -96,15 +89,6 @@ coords-lack d (suc n) rs ns = go (findCoord d rs ns) (coord-sound d rs ns) (text
         lacks-as _ (times (findCoord d) n rs1 ns1) (length ns1) (n * width d) (length ns) (suc n * width d) (ih rs1 ns1) (λ k. omega (arith, e, g, h .2, k))
 
 module _ (count : ℕ) where
-  -- the innermost open node has a child to come; it has none
-  pub meets-open : (f : Frame) (fs : List Frame) (i j : ℕ) (rs : List Row) → isSpent f ≡ false → meets count (f ∷ fs) i j rs ≡ meetsRows count (f ∷ fs) i j rs
-  unfolding meets nodeEnds stillOpen
-  meets-open f fs i j rs e = rw e (follow-none (meetsRows count (f ∷ fs) i j rs))
-
-  pub meets-spent : (f : Frame) (fs : List Frame) (i j : ℕ) (rs : List Row) → isSpent f ≡ true → meets count (f ∷ fs) i j rs ≡ follow (nodeEnd f i) (meets count fs i j rs)
-  unfolding meets nodeEnds stillOpen
-  meets-spent f fs i j rs e = rw e (follow-both (nodeEnd f i) (nodeEnds fs i) (meetsRows count (stillOpen fs) i j rs))
-
   -- from here on, after a part with its rows and its number texts
   abbrev after : {X : Type 0} → (X → List Row) → (X → List (List ℕ)) → List Frame → ℕ → ℕ → X → List Row → Option (List Met)
   after ro nu fs i j x rs = meets count fs (i + length (ro x)) (j + length (nu x)) rs
@@ -140,7 +124,7 @@ module _ (count : ℕ) where
         let b : j + 0 ≡ j = omega arith in
         rw (z, a, b) (sym (follow-none (meets count (to n ∷ fs) i j rs)))
     kids (suc l) m e i j rs ns c =
-        meets-open (to m) fs i j rs (lt-leb n m (omega arith)) ∙ S m i j rs ns c ∙ go (F rs ns) (sound rs ns) (kids l (m + 1) (omega arith))
+        meets-open count (to m) fs i j rs (lt-leb n m (omega arith)) ∙ S m i j rs ns c ∙ go (F rs ns) (sound rs ns) (kids l (m + 1) (omega arith))
       where
         go : (q : Front X) → FoundAs (Is ro nu Q rs ns) q → Kids l (m + 1) →
             thenMeet q (w (to m) i j) (after ro nu (to (m + 1) ∷ fs) i j) ≡ thenMeet (onFront q λ x rs1 ns1. asA (λ (xs : List X). x ∷ xs) (times F l rs1 ns1)) (walkEach ro nu w (to m) i j) (after (flatMap ro) (flatMap nu) (to n ∷ fs) i j)
@@ -184,7 +168,7 @@ module _ (count : ℕ) where
   ended k d depth n i r j fs rs nz =
       let a : i + 1 + r - i ≡ suc r = omega arith in
       let b : i + 1 + r ≡ i + suc r = omega arith in
-      meets-spent (frame i k d depth n n) fs (i + 1 + r) j rs (le-leb n n (omega arith)) ∙ rw (ne-eqb k 0 nz, a, b)
+      meets-spent count (frame i k d depth n n) fs (i + 1 + r) j rs (le-leb n n (omega arith)) ∙ rw (ne-eqb k 0 nz, a, b)
 
   closes : {X : Type 0} (ro : X → List Row) (nu : X → List (List ℕ)) (w : Walker X) (k d depth i j : ℕ) (f : Frame) (fs : List Frame) (xs : List X) (rs : List Row) → (k ≡ 0 → ⊥) → 1 ≤ length xs → frameOf (visitOf i j f (row k d (length xs))) .depth ≡ depth →
       follow (met.Node (visitOf i j f (row k d (length xs))) ∷ []) (follow (walkEach ro nu w (frame i k d depth (length xs) 0) (i + 1) j xs) (after (flatMap ro) (flatMap nu) (frame i k d depth (length xs) (length xs) ∷ fs) (i + 1) j xs rs))

@@ -1,4 +1,3 @@
-pub mod Nodes
 pub mod Numbers
 pub mod Visits
 pub mod Store

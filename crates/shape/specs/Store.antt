@@ -1,6 +1,6 @@
 -- Well-formed stores (document 01, "The store").
-use mathlib.Core.Bool.{Bool, true, false, cond, _&&_}
-use mathlib.Core.Option.{Option, none, some}
+use mathlib.Core.Bool.{Bool, cond, _&&_}
+use mathlib.Core.Option.{Option, none}
 use mathlib.Core.List.{List}
 use Prim.Native.Nat.{ℕ, _%_}
 use lib.Dec.{eqb}
@@ -9,8 +9,9 @@ use Rattle.limits.specs.Limits.{depthLimit}
 use Rattle.store.specs.Rows.{Row, Span, nodeWidth, numberWidth, nodeRoom, numberRoom, rowsIn, spansIn}
 use Rattle.tree.specs.Tree.{Tree}
 use Rattle.tree.specs.TreeIn.{spanTexts, treeIn}
-use Rattle.shape.specs.declared.Met.{Met}
-use Rattle.shape.specs.Nodes.{above}
+use Rattle.lists.specs.Options.{isSome, mapO}
+use Rattle.nodes.specs.declared.Met.{Met}
+use Rattle.nodes.specs.Nodes.{above}
 use Rattle.shape.specs.Numbers.{areNumbers}
 use Rattle.shape.specs.Visits.{walkTree}
 
@@ -32,17 +33,9 @@ areWhole nodes numbers = eqb (length nodes % nodeWidth) 0 && eqb (length numbers
 unfoldable pub treeOf : List ℕ → List ℕ → List ℕ → Option (Tree depthLimit)
 treeOf text nodes numbers = cond (areWhole nodes numbers && areNumbers text numbers) (treeIn depthLimit (allRows nodes) (allTexts text numbers)) none
 
-abbrev pub isSome : {X : Type 0} → Option X → Bool
-isSome none = false
-isSome (some x) = true
-
 -- "A store is well formed if its rows are exactly one preorder tree [..], the numbers are exactly as many as needed, and each lies in its text and is a lexeme."
 unfoldable pub wellFormed : List ℕ → List ℕ → List ℕ → Bool
 wellFormed text nodes numbers = isSome (treeOf text nodes numbers)
-
-abbrev pub mapO : {X Y : Type 0} → (X → Y) → Option X → Option Y
-mapO f none = none
-mapO f (some x) = some (f x)
 
 -- what a walk from above the root meets in a tree
 abbrev pub walkRoot : Tree depthLimit → List Met

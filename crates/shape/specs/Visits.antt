@@ -5,11 +5,11 @@ use lib.ListN.{length}
 use Rattle.kinds.specs.Kinds.{kindPoint, kindLineString, kindPolygon, kindMultiPoint, kindMultiLineString, kindMultiPolygon, kindGeometryCollection}
 use Rattle.store.specs.Rows.{Row}
 use Rattle.tree.specs.Tree.{Coord, Node, pointN, lineN, polygonN, multipointN, multilineN, multipolygonN, collectionN, Tree, rowOver, rowsWith, noRows, pointRows, lineRows, polygonRows, rows, coordTexts, lineTexts, polygonTexts, noTexts, texts}
-use Rattle.shape.specs.declared.Frame.{Frame}
-use Rattle.shape.specs.declared.Visit.{Visit}
-use Rattle.shape.specs.declared.Met.{Met}
-use Rattle.shape.specs.declared.Met.the-variants as met
-use Rattle.shape.specs.Nodes.{visitOf, frameOf, onward}
+use Rattle.nodes.specs.declared.Frame.{Frame}
+use Rattle.nodes.specs.declared.Visit.{Visit}
+use Rattle.nodes.specs.declared.Met.{Met}
+use Rattle.nodes.specs.declared.Met.the-variants as met
+use Rattle.nodes.specs.Nodes.{visitOf, frameOf, onward}
 
 -- what is met of a part X that stands below a frame, its first row at i and its first number at j
 abbrev pub Walker : Type 0 → Type 0

@@ -16,8 +16,8 @@ use Rattle.lists.proofs.Cases.{and-both}
 use Rattle.store.specs.Rows.{flatRows, flatSpans, firsts}
 use Rattle.store.specs.Answers.{Outcome, filled, refused}
 use Rattle.store.proofs.Cells.{firsts-length}
+use Rattle.walk.proofs.Stack.{firsts-cut, firsts-past}
 use Rattle.shape.specs.Store.{wellFormed}
-use Rattle.shape.proofs.Stack.{firsts-cut, firsts-past}
 use Rattle.fields.specs.Fields.{headLength, contentEnd, isField, isSized}
 use Rattle.stored.specs.declared.Version.{Version}
 use Rattle.stored.specs.declared.reading.Head.the-variants as head

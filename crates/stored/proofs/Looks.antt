@@ -15,12 +15,12 @@ use Rattle.number.specs.Lexeme.{isLexeme, isPlain}
 use Rattle.number.proofs.Plain.{plain-lexeme}
 use Rattle.store.specs.Rows.{Row, row, Span}
 use Rattle.tree.specs.TreeIn.{spanTexts}
-use Rattle.shape.specs.declared.Walk.{Walk}
-use Rattle.shape.specs.declared.Entered.{Entered}
-use Rattle.shape.specs.declared.Entered.the-variants.{To, Ill}
-use Rattle.shape.specs.Store.{isSome}
-use Rattle.shape.specs.Walk.{cells, beginning, entering, hasEnded, aheadBy}
-use Rattle.shape.proofs.Fed.{Reached, Begun, given-begin, Gone, given-to, given-ill, given-last}
+use Rattle.lists.specs.Options.{isSome}
+use Rattle.walk.specs.declared.Walk.{Walk}
+use Rattle.walk.specs.declared.Entered.{Entered}
+use Rattle.walk.specs.declared.Entered.the-variants.{To, Ill}
+use Rattle.walk.specs.Walk.{cells, beginning, entering, hasEnded, aheadBy}
+use Rattle.walk.proofs.Fed.{Reached, Begun, given-begin, Gone, given-to, given-ill, given-last}
 use Rattle.fields.specs.Counts.{byte, countIn}
 use Rattle.fields.specs.Fields.{headLength, lengthIn, contentEnd, contentIn, isField, fieldAt, isSized}
 use Rattle.fields.specs.declared.Found.the-variants as found

@@ -14,7 +14,7 @@ use Rattle.lists.specs.Lists.{every}
 use Rattle.lists.proofs.Cases.{either, and-both}
 use Rattle.store.specs.Rows.{Row, nodeRoom, numberRoom, spanLengthAt}
 use Rattle.store.proofs.Cells.{firsts-length}
-use Rattle.shape.proofs.Stack.{firsts-cut, firsts-past}
+use Rattle.walk.proofs.Stack.{firsts-cut, firsts-past}
 use Rattle.fields.specs.Counts.{countBytes}
 use Rattle.fields.specs.Fields.{headLength, longest, field}
 use Rattle.fields.proofs.Counts.{bytes-length}

@@ -11,9 +11,9 @@ use borrow.Rule.Slice.PartMut.{midOf, putMid, mid-len, same-len-mid}
 use Rattle.lists.specs.Lists.{All}
 use Rattle.store.specs.Rows.{nodeRoom, numberRoom, kindAt, dimensionAt, partsAt, rowAt, spanAt, firsts, rowsIn, spansIn}
 use Rattle.tree.specs.TreeIn.{spanTexts}
+use Rattle.walk.proofs.Stack.{firsts-cut, firsts-past}
 use Rattle.shape.specs.Numbers.{textAt}
 use Rattle.shape.specs.Store.{allRows, allSpans}
-use Rattle.shape.proofs.Stack.{firsts-cut, firsts-past}
 use Rattle.fields.specs.Counts.{countBytes}
 use Rattle.fields.specs.Fields.{field}
 use Rattle.fields.proofs.Counts.{bytes-length}

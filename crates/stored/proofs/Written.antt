@@ -22,7 +22,8 @@ use Rattle.tree.specs.Tree.{Tree, rows, texts}
 use Rattle.tree.specs.TreeIn.{SpanIn, spanText, spanTexts}
 use Rattle.tree.proofs.Parts.{parts-fit}
 use Rattle.tree.proofs.KnownRows.{KnownRow, known-rows}
-use Rattle.shape.specs.Store.{allRows, allTexts, treeOf, isSome, wellFormed}
+use Rattle.lists.specs.Options.{isSome}
+use Rattle.shape.specs.Store.{allRows, allTexts, treeOf, wellFormed}
 use Rattle.shape.proofs.Stores.{texts-count, StoreTree, Grown, grown, is-tree, store-tree}
 use Rattle.pen.specs.declared.Pen.{Pen}
 use Rattle.pen.specs.Pen.{pen, HasPut, ToPut, Emits}

@@ -11,8 +11,9 @@ use Rattle.refusals.specs.Refusals.{textTooLong, noNodeRow, noNumberRow, illFor
 use Rattle.store.specs.Rows.{Row, row, Span, spanOf, flatRows, flatSpans, padded}
 use Rattle.store.specs.Answers.{Outcome, filled, refused}
 use Rattle.tree.specs.TreeIn.{spanTexts}
-use Rattle.shape.specs.Nodes.{above, meets}
-use Rattle.shape.specs.Store.{isSome, wellFormed}
+use Rattle.lists.specs.Options.{isSome}
+use Rattle.nodes.specs.Nodes.{above, meets}
+use Rattle.shape.specs.Store.{wellFormed}
 use Rattle.fields.specs.Counts.{countIn}
 use Rattle.fields.specs.Fields.{headLength, lengthIn, contentEnd, isField, isSized}
 use Rattle.stored.specs.declared.Version.{Version}

@@ -11,9 +11,9 @@ use refusals::NO_NODE_ROW;
 use refusals::NO_NUMBER_ROW;
 use refusals::TEXT_TOO_LONG;
 use refusals::UNKNOWN_VERSION;
-use shape::CELLS;
-use shape::Entered;
 use store::ReadAnswer;
+use walk::CELLS;
+use walk::Entered;
 ghost use mathlib.Core.Path.{_≡_};
 ghost use mathlib.Core.Bool.{true};
 ghost use Prim.Native.Nat.{_≤_, _<_, _^_};
@@ -80,7 +80,7 @@ fn look_at_nodes(bytes: &[u8], width: usize, first: usize, count: usize, numbers
     ensures { λ r. ⌜ r ≡ nodesSeen width (now (bytes .entry)) first count numbers ⌝ }
 {
     let mut cells = [0; CELLS];
-    let mut w = shape::start(&mut cells);
+    let mut w = walk::start(&mut cells);
     let mut well = true;
     let mut at = first;
     let mut i = 0;
@@ -92,7 +92,7 @@ fn look_at_nodes(bytes: &[u8], width: usize, first: usize, count: usize, numbers
         let parts = content + BEFORE_PARTS;
         let end = parts + width;
         if well {
-            let entered = shape::enter(
+            let entered = walk::enter(
                 &mut cells,
                 numbers,
                 w,
@@ -112,7 +112,7 @@ fn look_at_nodes(bytes: &[u8], width: usize, first: usize, count: usize, numbers
         at = end;
         i += 1;
     }
-    Seen::Whole(well & shape::has_ended(&cells, numbers, w), at)
+    Seen::Whole(well & walk::has_ended(&cells, numbers, w), at)
 }
 
 // The `count` number fields from `first` on, after which nothing may follow: whether each is a lexeme.

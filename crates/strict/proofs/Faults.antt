@@ -7,9 +7,9 @@ use mathlib.Core.List.{List, [], _∷_, _++_}
 use Prim.Native.Nat.{ℕ}
 use lib.Dec.{eqb}
 use borrow.Author.Tests.{eqb-false, ne-eqb}
-use Rattle.shape.specs.declared.Visit.{Visit}
-use Rattle.shape.specs.declared.Met.{Met}
-use Rattle.shape.specs.declared.Met.the-variants.{Node, End, Done, Ill}
+use Rattle.nodes.specs.declared.Visit.{Visit}
+use Rattle.nodes.specs.declared.Met.{Met}
+use Rattle.nodes.specs.declared.Met.the-variants.{Node, End, Done, Ill}
 use Rattle.strict.specs.Rules.{noLetter, fault}
 use Rattle.strict.specs.Strict.{answer, firstFault, orElse}
 

@@ -11,9 +11,9 @@ use borrow.Author.Tests.{eq-eqb, ne-eqb, eqb-true}
 use lib.ListN.{length, getD, drop, drop-of-length-le}
 use lib.Seq.{drop-cons}
 use Rattle.kinds.specs.Kinds.{kindLineString, width}
-use Rattle.shape.specs.declared.Visit.{Visit}
+use Rattle.nodes.specs.declared.Visit.{Visit}
+use Rattle.walk.specs.Walk.{CoordinatesIn}
 use Rattle.shape.specs.Numbers.{textAt}
-use Rattle.shape.specs.Walk.{CoordinatesIn}
 use Rattle.store.specs.Rows.{numberRoom}
 use Rattle.strict.specs.Rules.{sameBytes, sameTexts, isRing}
 

@@ -4,7 +4,7 @@ use mathlib.Core.List.{List, [], _∷_}
 use Prim.Native.Nat.{ℕ, zero, suc, _+_, _-_, _*_, _^_, _<_}
 use lib.Dec.{eqb, ltb}
 use Rattle.kinds.specs.Kinds.{kindLineString, kindPolygon, kindGeometryCollection, width}
-use Rattle.shape.specs.declared.Visit.{Visit}
+use Rattle.nodes.specs.declared.Visit.{Visit}
 use Rattle.shape.specs.Numbers.{textAt}
 
 -- a letter's ASCII byte

@@ -5,8 +5,8 @@ use mathlib.Core.List.{List, [], _∷_}
 use Prim.Native.Nat.{ℕ}
 use lib.Dec.{eqb}
 use Rattle.refusals.specs.Refusals.{illFormedStore}
-use Rattle.shape.specs.declared.Met.{Met}
-use Rattle.shape.specs.declared.Met.the-variants.{Node, End, Done, Ill}
+use Rattle.nodes.specs.declared.Met.{Met}
+use Rattle.nodes.specs.declared.Met.the-variants.{Node, End, Done, Ill}
 use Rattle.shape.specs.Store.{walkOf}
 use Rattle.strict.specs.declared.StrictAnswer.{StrictAnswer}
 use Rattle.strict.specs.Rules.{noLetter, fault}

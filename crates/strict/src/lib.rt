@@ -3,17 +3,18 @@ ghost use mathlib.Core.Path.{_≡_};
 ghost use mathlib.Core.List.{[], _∷_};
 ghost use Rattle.refusals.specs.Refusals.{illFormedStore};
 ghost use Rattle.store.specs.Rows.{numberRoom};
-ghost use Rattle.shape.specs.declared.Met.the-variants.{Node};
-ghost use Rattle.shape.specs.Walk.{CoordinatesIn, NumbersIn, wholeWalk};
+ghost use Rattle.nodes.specs.declared.Met.the-variants.{Node};
+ghost use Rattle.walk.specs.Walk.{CoordinatesIn, NumbersIn};
+ghost use Rattle.shape.specs.Walk.{wholeWalk};
 ghost use Rattle.strict.specs.Rules.{noLetter, sameBytes, sameTexts, isRing, isShort, failsA, failsB, failsC, failsD, closed, fault, BothFit};
 ghost use Rattle.strict.specs.Strict.{answer, firstFault, orElse, ofWalk, strictOf};
 use kinds::KIND_GEOMETRYCOLLECTION;
 use kinds::KIND_LINESTRING;
 use kinds::KIND_POLYGON;
+use nodes::Met;
+use nodes::Visit;
 use refusals::ILL_FORMED_STORE;
-use shape::CELLS;
-use shape::Met;
-use shape::Visit;
+use walk::CELLS;
 
 // The fewest coordinates of a line string and of a ring that are not empty.
 const LINE_MIN: u32 = 2;
@@ -178,14 +179,14 @@ fn first_fault(text: &[u8], nodes: &[u32], numbers: &[u32]) -> StrictAnswer
 {
     let count = store::number_room(numbers);
     let mut cells = [0; CELLS];
-    let mut w = shape::start(&mut cells);
+    let mut w = walk::start(&mut cells);
     let mut found = StrictAnswer {
         number: 0,
         letter: 0,
         row: 0,
     };
     loop {
-        let s = shape::step(nodes, count, &mut cells, w);
+        let s = walk::step(nodes, count, &mut cells, w);
         let met = s.met;
         match met {
             Met::Node(v) => {

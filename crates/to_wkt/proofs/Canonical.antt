@@ -15,11 +15,11 @@ use Rattle.kinds.specs.Kinds.{kindLineString, width}
 use Rattle.names.specs.Letters.{isLetter}
 use Rattle.names.specs.Names.{names, endings}
 use Rattle.store.specs.Rows.{numberRoom}
-use Rattle.shape.specs.declared.Visit.{Visit}
+use Rattle.nodes.specs.declared.Visit.{Visit}
 use Rattle.kinds.proofs.Widths.{width-some}
 use Rattle.shape.specs.Numbers.{textAt}
 use Rattle.canonical_text.specs.Canonical.{needsPlus, spell, stringOf}
-use Rattle.shape.specs.Walk.{NumbersIn}
+use Rattle.walk.specs.Walk.{NumbersIn}
 use Rattle.to_wkt.specs.Canonical.{putNumber, putSpaced, putCoordinate, putListed, putCoordinates}
 
 -- ---- numbers

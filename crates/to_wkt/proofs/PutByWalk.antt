@@ -11,8 +11,9 @@ use Rattle.refusals.specs.Refusals.{illFormedStore, noRoom}
 use Rattle.tree.specs.Tree.{Tree}
 use Rattle.limits.specs.Limits.{depthLimit}
 use Rattle.store.specs.Rows.{numberRoom, cleared}
-use Rattle.shape.specs.declared.Met.{Met}
-use Rattle.shape.specs.Store.{treeOf, mapO, walkRoot, walkOf}
+use Rattle.lists.specs.Options.{mapO}
+use Rattle.nodes.specs.declared.Met.{Met}
+use Rattle.shape.specs.Store.{treeOf, walkRoot, walkOf}
 use Rattle.shape.specs.Walk.{areRows, wholeWalk}
 use Rattle.shape.proofs.Checks.{the-walk}
 use Rattle.canonical_text.specs.Canonical.{canonicalText}

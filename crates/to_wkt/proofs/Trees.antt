@@ -20,13 +20,14 @@ use Rattle.tree.specs.Tree.{Coord, pointN, lineN, polygonN, multipointN, multil
 use Rattle.tree.specs.TreeIn.{spanText, spanTexts}
 use Rattle.canonical_text.specs.Canonical as tree
 use Rattle.canonical_text.specs.Canonical.{each, separated, putCoord, putParts, putNamed, putWith, putPoint, putLine, putPolygon, putNothing, putTree, canonicalText}
-use Rattle.shape.specs.declared.Frame.{Frame}
-use Rattle.shape.specs.declared.Visit.{Visit}
-use Rattle.shape.specs.declared.Met.{Met}
-use Rattle.shape.specs.Nodes.{above, visitOf, isFree, frameOf, onward}
+use Rattle.lists.specs.Options.{mapO}
+use Rattle.nodes.specs.declared.Frame.{Frame}
+use Rattle.nodes.specs.declared.Visit.{Visit}
+use Rattle.nodes.specs.declared.Met.{Met}
+use Rattle.nodes.specs.Nodes.{above, visitOf, isFree, frameOf, onward}
 use Rattle.shape.specs.Visits.{Walker, walkEach, walkLeaf, walkParts, walkNest, walkPoint, walkLine, walkPolygon, walkNode, walkNothing, walkTree}
 use Rattle.shape.specs.Numbers.{textAt}
-use Rattle.shape.specs.Store.{treeOf, wellFormed, mapO, walkRoot, walkOf}
+use Rattle.shape.specs.Store.{treeOf, wellFormed, walkRoot, walkOf}
 use Rattle.shape.proofs.Stores.{grown, store-tree}
 use Rattle.to_wkt.specs.Canonical.{storeText, writtenText, putNumber, putSpaced, putCoordinate, putListed, putCoordinates, putName, putComma, putHead, putBody, putNode, putMet, putAll}
 

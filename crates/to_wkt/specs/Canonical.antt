@@ -10,12 +10,13 @@ use Rattle.kinds.specs.Kinds.{kindLineString, width}
 use Rattle.names.specs.Names.{names}
 use Rattle.names.specs.Strings.{empty}
 use Rattle.canonical_text.specs.Canonical.{spell, stringOf, putDimension, canonicalText}
-use Rattle.shape.specs.declared.Visit.{Visit}
-use Rattle.shape.specs.declared.Met.{Met}
-use Rattle.shape.specs.declared.Met.the-variants.{Node, End, Done, Ill}
-use Rattle.shape.specs.Nodes.{isFree}
+use Rattle.lists.specs.Options.{mapO}
+use Rattle.nodes.specs.declared.Visit.{Visit}
+use Rattle.nodes.specs.declared.Met.{Met}
+use Rattle.nodes.specs.declared.Met.the-variants.{Node, End, Done, Ill}
+use Rattle.nodes.specs.Nodes.{isFree}
 use Rattle.shape.specs.Numbers.{textAt}
-use Rattle.shape.specs.Store.{treeOf, mapO}
+use Rattle.shape.specs.Store.{treeOf}
 
 -- the canonical text of a store, if it is well formed
 unfoldable pub storeText : List ℕ → List ℕ → List ℕ → Option (List ℕ)

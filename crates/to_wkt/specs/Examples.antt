@@ -14,9 +14,10 @@ use Rattle.store.specs.Rows.{Row, nodeOver, cell, firsts, rowsIn, spansIn, flat
 use Rattle.tree.specs.Tree.{rowsWith}
 use Rattle.tree.specs.TreeIn.{onFront, asA, times, findText, findRow, exactlyOne, atMostOne, findParts, findNode, whole}
 use Rattle.canonical_text.specs.Canonical.{spell, each, separated, putParts, putNamed, putDimension, stringOf, putWith}
-use Rattle.shape.specs.Nodes.{isAllowed, childKind}
+use Rattle.lists.specs.Options.{mapO}
+use Rattle.nodes.specs.Nodes.{isAllowed, childKind}
 use Rattle.shape.specs.Numbers.{textAt, areNumbers}
-use Rattle.shape.specs.Store.{mapO, areWhole, treeOf, walkOf}
+use Rattle.shape.specs.Store.{areWhole, treeOf, walkOf}
 use Rattle.shape.specs.Visits.{walkEach, walkParts}
 use Rattle.to_wkt.specs.Canonical.{storeText, putNumber, putSpaced, putCoordinate, putListed, putCoordinates, putName, putComma, putHead, putBody, putNode, putMet, putAll}
 use Rattle.to_wkt.specs.Write.{outputOf}

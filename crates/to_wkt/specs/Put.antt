@@ -5,7 +5,7 @@ use mathlib.Core.Option.{Option, none, some}
 use mathlib.Core.List.{List, []}
 use Prim.Native.Nat.{ℕ}
 use Rattle.pen.specs.Pen.{ToPut}
-use Rattle.shape.specs.declared.Met.{Met}
+use Rattle.nodes.specs.declared.Met.{Met}
 use Rattle.to_wkt.specs.declared.PutAnswer.{PutAnswer}
 use Rattle.to_wkt.specs.Canonical.{putAll}
 

@@ -7,7 +7,8 @@ ghost use Rattle.scan.specs.Front.{begins};
 ghost use Rattle.names.specs.Letters.{isLetter};
 ghost use Rattle.pen.specs.Pen.{Emits};
 ghost use Rattle.canonical_text.specs.Canonical.{needsPlus, putDimension};
-ghost use Rattle.shape.specs.Walk.{NumbersIn, wholeWalk};
+ghost use Rattle.walk.specs.Walk.{NumbersIn};
+ghost use Rattle.shape.specs.Walk.{wholeWalk};
 ghost use Rattle.store.specs.Rows.{numberRoom};
 ghost use Rattle.to_wkt.specs.Canonical.{putNumber, putCoordinate, putCoordinates, putName, putComma, putHead, putBody, putNode};
 ghost use Rattle.to_wkt.specs.Write.{HasCoordinate, HasCoordinates, Written};
@@ -34,13 +35,13 @@ use names::POINT;
 use names::POLYGON;
 use names::Z;
 use names::ZM;
+use nodes::Met;
+use nodes::Visit;
 use pen::Pen;
 use refusals::ILL_FORMED_STORE;
 use refusals::NO_ROOM;
-use shape::CELLS;
-use shape::Met;
-use shape::Visit;
 use store::WriteAnswer;
+use walk::CELLS;
 
 // Whether the rows are no tree; and if they are one, the pen after its text.
 struct PutAnswer {
@@ -177,7 +178,7 @@ fn put_comma(out: &mut [u8], p: Pen, v: Visit) -> Pen
 fn put_head(out: &mut [u8], p: Pen, v: Visit) -> Pen
     ensures { λ r. ⌜ Emits (putHead v) p (now (out .entry)) r (now (out .exit)) ⌝ }
 {
-    if !shape::is_free(v.parent.kind) {
+    if !nodes::is_free(v.parent.kind) {
         return p;
     }
     let name = put_name(out, p, v.kind);
@@ -225,10 +226,10 @@ fn put_rows(out: &mut [u8], text: &[u8], nodes: &[u32], numbers: &[u32]) -> PutA
 {
     let count = store::number_room(numbers);
     let mut cells = [0; CELLS];
-    let mut w = shape::start(&mut cells);
+    let mut w = walk::start(&mut cells);
     let mut pen = Pen { at: 0, full: false };
     loop {
-        let s = shape::step(nodes, count, &mut cells, w);
+        let s = walk::step(nodes, count, &mut cells, w);
         let met = s.met;
         match met {
             Met::Node(v) => {

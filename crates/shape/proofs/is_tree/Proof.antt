@@ -5,7 +5,7 @@ use Prim.Native.Nat.{ℕ, _-_}
 use native.Mathlib.Omega.{arith}
 use borrow.Author.Needs.{needs}
 use lib.ListN.{length-replicate}
-use Rattle.shape.specs.Walk.{cells}
+use Rattle.walk.specs.Walk.{cells}
 use Rattle.shape.proofs.Loops.{Giving, giving-begin, giving-to, giving-ill, giving-last}
 use Rattle.shape.proofs.is_tree.Statement.{statement}
 use Rattle.shape.proofs.is_tree.Tie as tie

@@ -4,7 +4,8 @@ use mathlib.Core.Path.{_≡_, refl, ap, sym, _∙_}
 use Prim.Native.Nat.{ℕ}
 use borrow.Author.Needs.{needs}
 use lib.ListN.{length, length-replicate}
-use Rattle.shape.specs.Walk.{cells, wholeWalk}
+use Rattle.walk.specs.Walk.{cells}
+use Rattle.shape.specs.Walk.{wholeWalk}
 use Rattle.shape.proofs.Stepped.{ahead-of}
 use Rattle.shape.proofs.Loops.{Walking, begin, forward, turn, done, ill}
 use Rattle.pen.proofs.Puts.{emits}

@@ -4,9 +4,9 @@ use Rattle.stored.proofs.reading.look_at_nodes.Reads as reads
 use Rattle.stored.proofs.reading.look_at_nodes.Lts as lts
 use Rattle.fields.proofs.count_in.Reads as count-in-reads
 use Rattle.fields.proofs.is_sized.Reads as is-sized-reads
-use Rattle.shape.proofs.enter.Reads as enter-reads
-use Rattle.shape.proofs.has_ended.Reads as has-ended-reads
-use Rattle.shape.proofs.start.Reads as start-reads
+use Rattle.walk.proofs.enter.Reads as enter-reads
+use Rattle.walk.proofs.has_ended.Reads as has-ended-reads
+use Rattle.walk.proofs.start.Reads as start-reads
 use mathlib.Core.Path.{_≡_, sym, _∙_}
 use mathlib.Core.Bool.{true, _&&_}
 use mathlib.Core.Logic.{⊎-elim}
@@ -15,7 +15,7 @@ use native.Mathlib.Omega.{arith}
 use lib.ListN.{length, length-replicate}
 use borrow.Author.Needs.{needs}
 use borrow.Author.Tests.{not-true, not-false}
-use Rattle.shape.specs.Walk.{cells}
+use Rattle.walk.specs.Walk.{cells}
 use Rattle.stored.specs.declared.reading.Seen.the-variants.{Whole}
 use Rattle.stored.specs.Reading.{nodeAfter}
 use Rattle.stored.proofs.Looks.{LookingNodes, nodes-begin, node-room, node-faulty, node-passed, node-to, node-ill, nodes-end}

@@ -1,0 +1,7 @@
+pub mod Sizes
+pub mod Nested
+pub mod Stack
+pub mod Wants
+pub mod Steps
+pub mod Fed
+pub mod OneOutcome
