@@ -46,7 +46,7 @@ module _ {bytes : List ℕ} {start count at i : ℕ} (p : Placing bytes start co
         record {
           within = omega arith;
           right = rw e (record { items = f .tail; end = p .right .end; are = f .rest });
-          same = rw e (rw one-left at (p .same))
+          same = rw e (rw one-left at (p .same));
         }
 
   pub placing-ends : count ≤ i → at ≡ placeAfter bytes start count
@@ -83,7 +83,7 @@ module _ {w : ℕ} {bytes : List ℕ} {start count : ℕ} {ns₀ ns : List ℕ} 
         record {
           within = omega arith;
           same = ap length put ∙ putRow-length ns i (getD bytes (at + headLength) 0) (getD bytes (at + headLength + 1) 0) n ∙ f .same;
-          telling = rw (rows, next) (telling-on (isSized nodeTag (nodeSize w) bytes) (rowTold w bytes) (nodeAfter w) count i at (f .telling) h)
+          telling = rw (rows, next) (telling-on (isSized nodeTag (nodeSize w) bytes) (rowTold w bytes) (nodeAfter w) count i at (f .telling) h);
         }
 
   pub nodes-filled : count ≤ i → count ≤ nodeRoom ns₀ → {ns′ : List ℕ} → ns′ ≡ cleared ns (placesOf nodeWidth ns count) → Filled flatRows (nodesFrom w bytes start count) ns₀ ns′
@@ -115,7 +115,7 @@ module _ {bytes : List ℕ} {start count : ℕ} {ms₀ ms : List ℕ} {at i : �
         record {
           within = omega arith;
           same = ap length put ∙ putSpan-length ms i (at + headLength) len ∙ f .same;
-          telling = rw (spans, e) (telling-on (isField numberTag bytes) (spanTold bytes) (contentEnd bytes) count i at (f .telling) h)
+          telling = rw (spans, e) (telling-on (isField numberTag bytes) (spanTold bytes) (contentEnd bytes) count i at (f .telling) h);
         }
 
   pub numbers-filled : count ≤ i → count ≤ numberRoom ms₀ → {ms′ : List ℕ} → ms′ ≡ cleared ms (placesOf numberWidth ms count) → Filled flatSpans (numbersFrom bytes start count) ms₀ ms′

@@ -80,7 +80,7 @@ module _ {bytes : List ℕ} {start count : ℕ} {good : Bool} {at i : ℕ} (l : 
           let b = whole-field numberTag bytes at e in
           record {
             within = omega arith;
-            same = rw (n, ← its-text, ← (b .1)) (sym (numbers-one bytes good at (numbersFrom bytes (contentEnd bytes at) (count - (i + 1)))) ∙ rw (turn-on (isField numberTag bytes) (spanTold bytes) (contentEnd bytes) count i at h (b .0)) at (l .same))
+            same = rw (n, ← its-text, ← (b .1)) (sym (numbers-one bytes good at (numbersFrom bytes (contentEnd bytes at) (count - (i + 1)))) ∙ rw (turn-on (isField numberTag bytes) (spanTold bytes) (contentEnd bytes) count i at h (b .0)) at (l .same));
           }
 
       pub number-plain : isPlain (take (end - (at + headLength)) (drop (at + headLength) bytes)) ≡ true → LookingNumbers bytes start count good end (i + 1)
@@ -157,7 +157,7 @@ module _ {width : ℕ} {bytes : List ℕ} {start count numbers : ℕ} {s : List 
       node-passed z = record {
         within = omega arith;
         same = rw z (nodes-none numbers s s w w (rowTold width bytes at) rest) ∙ rw z at its-field;
-        reached = λ y. absurd (false≢true (sym z ∙ y))
+        reached = λ y. absurd (false≢true (sym z ∙ y));
       }
 
       module _ (z : well ≡ true) (narrow : width ≤ 4) (few : count < 2 ^ 32) (all : (i : ℕ) → getD bytes i 0 < byte) {n : ℕ}
@@ -178,7 +178,7 @@ module _ {width : ℕ} {bytes : List ℕ} {start count numbers : ℕ} {s : List 
               record {
                 within = omega arith;
                 same = nodes-to numbers s w given g rest ∙ rw (its-row, ← z) its-field;
-                reached = λ y. (g .reached, g .row ∙ ap (λ k. k + 1) (l .reached z .1))
+                reached = λ y. (g .reached, g .row ∙ ap (λ k. k + 1) (l .reached z .1));
               }
 
           pub node-ill : met ≡ Ill → (w′ : Walk) → LookingNodes width bytes start count numbers s′ w′ false (at + headLength + 2 + width) (i + 1)
@@ -187,7 +187,7 @@ module _ {width : ℕ} {bytes : List ℕ} {start count numbers : ℕ} {s : List 
               record {
                 within = omega arith;
                 same = nodes-ill numbers s w given s′ w′ g rest ∙ rw (its-row, ← z) its-field;
-                reached = λ y. absurd (false≢true y)
+                reached = λ y. absurd (false≢true y);
               }
 
   pub nodes-end : count ≤ i → Whole (well && hasEnded s numbers w) at ≡ nodesSeen width bytes start count numbers
