@@ -2,10 +2,12 @@ pub mod Sizes
 pub mod Numbers
 pub mod Nested
 pub mod Stack
+pub mod Wants
 pub mod Steps
 pub mod Trees
 pub mod Slices
 pub mod Stores
+pub mod Fed
 pub mod Stepped
 pub mod Loops
 pub mod Checks

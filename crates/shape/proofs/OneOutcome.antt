@@ -11,7 +11,7 @@ use Rattle.shape.specs.declared.Walk.{Walk}
 use Rattle.shape.specs.Nodes.{isFree, isLeaf, numbersOf}
 use Rattle.shape.specs.Numbers.{textAt}
 use Rattle.shape.specs.Store.{wellFormed}
-use Rattle.shape.specs.Walk.{beginning, comingNext, given, walkStep, areRows}
+use Rattle.shape.specs.Walk.{beginning, comingNext, entering, hasEnded, walkStep, areRows}
 
 pub numbers_of-one : (v : Visit) → One (λ r. r ≡ numbersOf v)
 numbers_of-one v = one
@@ -30,8 +30,11 @@ module _ (cells : List ℕ) where
   pub next-one : (w : Walk) → One (λ r. r ≡ comingNext cells w)
   next-one w = one
 
-  pub enter-one : (count : ℕ) (w : Walk) (met : Row) → One (λ r. r ≡ given cells count w met)
+  pub enter-one : (count : ℕ) (w : Walk) (met : Row) → One (λ r. r ≡ entering cells count w met)
   enter-one count w met = one
+
+  pub has_ended-one : (count : ℕ) (w : Walk) → One (λ r. r ≡ hasEnded cells count w)
+  has_ended-one count w = one
 
   pub step-one : (nodes : List ℕ) (count : ℕ) (w : Walk) → One (λ r. r ≡ walkStep nodes count cells w)
   step-one nodes count w = one

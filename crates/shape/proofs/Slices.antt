@@ -2,9 +2,9 @@
 -- and their number texts are the same.
 -- Assumes nothing.
 use mathlib.Core.Path.{_≡_, refl, ap, sym, _∙_}
-use mathlib.Core.Bool.{true}
+use mathlib.Core.Bool.{Bool, true, false, cond, _&&_}
 use mathlib.Core.Logic.{_↔_}
-use mathlib.Core.Option.{some}
+use mathlib.Core.Option.{Option, none, some}
 use mathlib.Core.List.{List, [], _∷_, flatMap}
 use Prim.Native.Nat.{ℕ, zero, suc, _*_, _%_}
 use native.Mathlib.Omega.{arith}
@@ -13,15 +13,18 @@ use lib.ListN.{length, take, drop}
 use lib.Seq.{take-all, take-append-seam}
 use borrow.Author.Tests.{eqb-true, eq-eqb}
 use Rattle.store.specs.Rows.{Row, Span, span, nodeWidth, numberWidth, nodeRoom, numberRoom, spanAt, firsts, spansIn, flatRows, flatSpans, padded}
-use Rattle.store.proofs.Rows.{rows-length, rows-flat, rows-wide, rows-one, spans-flat}
+use Rattle.store.proofs.Rows.{rows-length, rows-flat, rows-wide, rows-one, spans-length, spans-flat}
 use Rattle.limits.specs.Limits.{depthLimit}
 use Rattle.tree.specs.Tree.{Tree, rows, texts}
 use Rattle.tree.proofs.TreeIn.{same-tree}
-use Rattle.lists.specs.Lists.{All}
+use Rattle.lists.specs.Lists.{every, All}
 use Rattle.tree.specs.TreeIn.{SpanIn}
 use Rattle.lists.proofs.Cases.{and-both}
-use Rattle.shape.specs.Store.{allRows, allSpans, allTexts, areWhole, treeOf}
-use Rattle.shape.proofs.Stores.{all-snoc, texts-count, StoreTree, store-tree, is-tree}
+use Rattle.shape.specs.declared.Met.{Met}
+use Rattle.shape.specs.Nodes.{above, meets}
+use Rattle.shape.specs.Numbers.{isNumber, areNumbers}
+use Rattle.shape.specs.Store.{allRows, allSpans, allTexts, areWhole, treeOf, isSome, wellFormed}
+use Rattle.shape.proofs.Stores.{walk-of, well-by-walk, all-snoc, texts-count, StoreTree, store-tree, is-tree}
 
 spans-wide : (ss : List Span) → length (flatSpans ss) ≡ length ss * numberWidth
 unfolding flatSpans flatMap
@@ -44,16 +47,16 @@ pub flat-rows : (rs : List Row) → allRows (flatRows rs) ≡ rs
 flat-rows rs = rows-one (allRows (flatRows rs)) rs (nodes-flat (flatRows rs) (omega (arith, rows-wide rs)))
 
 -- a number row that holds the bytes that it tells of
-Own : List ℕ → Span → Type 0
+abbrev pub Own : List ℕ → Span → Type 0
 Own text (span start len x) = take len (drop start text) ≡ x
 
 own-in : (text : List ℕ) (ss : List Span) → All (SpanIn text) ss → All (Own text) ss
-unfolding All Own
+unfolding All
 own-in text [] a = tt
 own-in text (span start len x ∷ ss) a = (a .0 .bytes, own-in text ss (a .1))
 
 own-all : (text ms : List ℕ) (n : ℕ) → All (Own text) (spansIn text ms n)
-unfolding All Own spansIn firsts
+unfolding All spansIn firsts
 own-all text ms zero = tt
 own-all text ms (suc n) = all-snoc (Own text) (firsts (spanAt text ms) n) (spanAt text ms n) (own-all text ms n) refl
 
@@ -61,7 +64,7 @@ two : (a b a′ b′ : ℕ) (l l′ : List ℕ) → _≡_ {A = List ℕ} (a ∷ 
 two a b a′ b′ l l′ e = (cc, cc, cc)
 
 spans-one : (text : List ℕ) (a b : List Span) → All (Own text) a → All (Own text) b → flatSpans a ≡ flatSpans b → a ≡ b
-unfolding flatSpans flatMap All Own
+unfolding flatSpans flatMap All
 spans-one text [] [] u v e = refl
 spans-one text [] (span s l x ∷ b) u v e = let z : _≡_ {A = ℕ} 0 1 = cc in absurd (omega arith)
 spans-one text (span s l x ∷ a) [] u v e = let z : _≡_ {A = ℕ} 0 1 = cc in absurd (omega arith)
@@ -71,8 +74,11 @@ spans-one text (span s l x ∷ a) (span s′ l′ x′ ∷ b) u v e =
     let y : x ≡ x′ = sym (u .0) ∙ rw (w .0, w .1) (v .0) in
     rw (w .0, w .1, y, q)
 
+pub own-spans : (text : List ℕ) (ss : List Span) → All (Own text) ss → allSpans text (flatSpans ss) ≡ ss
+own-spans text ss a = spans-one text (allSpans text (flatSpans ss)) ss (own-all text (flatSpans ss) (numberRoom (flatSpans ss))) a (numbers-flat text (flatSpans ss) (omega (arith, spans-wide ss)))
+
 pub flat-spans : (text : List ℕ) (ss : List Span) → All (SpanIn text) ss → allSpans text (flatSpans ss) ≡ ss
-flat-spans text ss a = spans-one text (allSpans text (flatSpans ss)) ss (own-all text (flatSpans ss) (numberRoom (flatSpans ss))) (own-in text ss a) (numbers-flat text (flatSpans ss) (omega (arith, spans-wide ss)))
+flat-spans text ss a = own-spans text ss (own-in text ss a)
 
 -- ---- lengths
 pub flat-whole : (rs : List Row) (ss : List Span) → areWhole (flatRows rs) (flatSpans ss) ≡ true
@@ -84,6 +90,18 @@ unfolding areWhole
 whole-lengths nodes numbers e =
     let u = and-both (eqb (length nodes % nodeWidth) 0) (eqb (length numbers % numberWidth) 0) e in
     (eqb-true (length nodes % nodeWidth) 0 (u .0), eqb-true (length numbers % numberWidth) 0 (u .1))
+
+-- ---- a store of given rows is well formed exactly when each number is one and the rows, by themselves, are a tree
+pub well-by-rows : (text : List ℕ) (rs : List Row) (ss : List Span) → All (Own text) ss → wellFormed text (flatRows rs) (flatSpans ss) ≡ (every (isNumber text) ss && isSome (meets (length ss) (above ∷ []) 0 0 rs))
+unfolding areNumbers
+well-by-rows text rs ss a =
+    let its = own-spans text ss a in
+    let room : numberRoom (flatSpans ss) ≡ length ss = sym (spans-length text (flatSpans ss) (numberRoom (flatSpans ss))) ∙ ap length its in
+    well-by-walk text (flatRows rs) (flatSpans ss) ∙ ap isSome (walk-of text (flatRows rs) (flatSpans ss)) ∙ rw (flat-whole rs ss, its, room, flat-rows rs) (go (every (isNumber text) ss) (meets (length ss) (above ∷ []) 0 0 rs))
+  where
+    go : (b : Bool) (o : Option (List Met)) → isSome (cond b o none) ≡ (b && isSome o)
+    go true o = refl
+    go false o = refl
 
 -- ---- the used rows of slices that are left with zeros after them
 pub used-rows : (rs : List Row) (m : ℕ) → take (length rs * nodeWidth) (padded (flatRows rs) m) ≡ flatRows rs

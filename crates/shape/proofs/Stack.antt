@@ -1,6 +1,6 @@
 -- Laws of frames that are kept as numbers: what a frame is after a put, and the open ones as a list.
 -- Assumes nothing.
-use mathlib.Core.Path.{_≡_, refl, ap, sym, _∙_}
+use mathlib.Core.Path.{_≡_, ap, sym, _∙_}
 use mathlib.Core.List.{List, [], _∷_, _++_}
 use Prim.Native.Nat.{ℕ, zero, suc, _+_, _-_, _*_, _/_, _%_, _≤_, _<_}
 use native.Mathlib.Omega.{arith}
@@ -10,7 +10,7 @@ use native.Mathlib.Decide.{decLt}
 use lib.ListN.{length, set, drop, getD, drop-of-length-le, List·getD-append}
 use lib.Seq.{drop-cons, sets, length-sets, getD-append-add}
 use Rattle.store.specs.Rows.{cell, put, firsts}
-use Rattle.store.proofs.Cells.{cell-in, put-in, put-length, put-before, put-here, put-there, firsts-length}
+use Rattle.store.proofs.Cells.{cell-in, put-in, put-before, put-here, put-there, firsts-length}
 use Rattle.shape.specs.declared.Frame.{Frame}
 use Rattle.shape.specs.Nodes.{onward}
 use Rattle.shape.specs.Walk.{frames, frameWidth, cells, half, nextColumn, frameCell, frameAt, frameNumbers, putFrame, putNext}

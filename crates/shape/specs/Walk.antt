@@ -1,4 +1,5 @@
--- The walk as the code takes it, step by step, with its frames as numbers in a lent array: `proofs/Stepped` shows that it meets what `Nodes` says.
+-- The walk as the code takes it, step by step, with its frames as numbers in a lent array: `proofs/Fed`, for rows that are given, and `proofs/Stepped`, for
+-- those of a slice, show that it meets what `Nodes` says.
 use mathlib.Core.Bool.{Bool, true, false, cond, not, _&&_}
 use mathlib.Core.Option.{Option}
 use mathlib.Core.List.{List, [], _∷_}

@@ -447,8 +447,10 @@ pub fn enter(
         top,
     };
     let s = meet(cells, count, here, v);
-    if is_node(s.met) {
-        return Entered::To(s.next);
+    let met = s.met;
+    if is_node(met) {
+        let after = s.next;
+        return Entered::To(after);
     }
     Entered::Ill
 }

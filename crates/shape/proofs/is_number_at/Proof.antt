@@ -1,6 +1,8 @@
--- `shape::is_number_at` meets its contract: the part of the text is the span's text.
+-- `shape::is_number_at` meets its contract: the part of the text is the span's text, and a plain one is a lexeme.
 -- Assumes nothing.
+use mathlib.Core.Path.{sym, _∙_}
 use borrow.Author.Needs.{needs}
+use Rattle.number.proofs.Plain.{plain-lexeme}
 use Rattle.shape.proofs.Numbers.{number-off, number-in}
 use Rattle.shape.proofs.is_number_at.Statement.{statement}
 use Rattle.shape.proofs.is_number_at.Tie as tie
@@ -23,20 +25,26 @@ add-end c = search needs
 returns : tie.Need-returns
 returns c = number-off _ _ _ _ _ (c .before .before .start-at .ensures) (c .before .length-at .ensures) (c .if1 .taken)
 
-sub-is-lexeme : tie.Need-sub-is-lexeme
-sub-is-lexeme c = search needs
+sub-w : tie.Need-sub-w
+sub-w c = search needs
 
-part-is-lexeme-start : tie.Need-part-is-lexeme-start
-part-is-lexeme-start c = search needs
+part-w-start : tie.Need-part-w-start
+part-w-start c = search needs
 
-part-is-lexeme-end : tie.Need-part-is-lexeme-end
-part-is-lexeme-end c = search needs
+part-w-end : tie.Need-part-w-end
+part-w-end c = search needs
+
+is-plain-requires : tie.Need-is-plain-requires
+is-plain-requires c κs = search needs
+
+returns-2 : tie.Need-returns-2
+returns-2 c = number-in _ _ _ _ _ (c .before .before .before .before .before .start-at .ensures) (c .before .before .before .before .length-at .ensures) _ (c .before .before .before .if1 .left) (sym (plain-lexeme _ (sym (c .before .is-plain .ensures) ∙ c .if2 .taken)))
 
 is-lexeme-requires : tie.Need-is-lexeme-requires
 is-lexeme-requires c κs = search needs
 
-returns-2 : tie.Need-returns-2
-returns-2 c = number-in _ _ _ _ _ (c .before .before .before .before .start-at .ensures) (c .before .before .before .length-at .ensures) _ (c .before .before .if1 .left) (c .is-lexeme .ensures)
+returns-3 : tie.Need-returns-3
+returns-3 c = number-in _ _ _ _ _ (c .before .before .before .before .before .before .start-at .ensures) (c .before .before .before .before .before .length-at .ensures) _ (c .before .before .before .before .if1 .left) (c .is-lexeme .ensures)
 
 pub is-number-at-spec : {M : Type 1} → statement M
 is-number-at-spec =
@@ -48,8 +56,10 @@ is-number-at-spec =
     cast-end
     add-end
     returns
-    sub-is-lexeme
-    part-is-lexeme-start
-    part-is-lexeme-end
+    sub-w
+    part-w-start
+    part-w-end
+    is-plain-requires
+    returns-2
     is-lexeme-requires
-    returns-2)
+    returns-3)
