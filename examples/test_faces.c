@@ -121,6 +121,44 @@ static void test_rooms(void)
     expect(is(answer, DOORHOLLOW_OK, 0, 5, 8), "read: with enough rows");
 }
 
+/* A tree is kept as bytes, read back from them, written again as the same bytes, and its numbers lie in them. */
+static void test_stored(void)
+{
+    static const uint8_t kept[] = {1, 0, 5, 1, 0, 1, 0, 2, 2, 0, 4, 1, 0, 0, 1, 3, 0, 1, '1', 3, 0, 1, '2'};
+    const char *text = "POINT(1 +2)";
+    uint32_t nodes[3], numbers[4];
+    uint64_t answer[DOORHOLLOW_ANSWER_PLACES];
+    uint8_t out[sizeof kept + 1], wrong[sizeof kept];
+
+    doorhollow_read(bytes(text), strlen(text), nodes, 3, numbers, 4, answer);
+    doorhollow_write_stored_1(bytes(text), strlen(text), nodes, 3, numbers, 4, out, sizeof out, answer);
+    expect(is(answer, DOORHOLLOW_OK, 0, sizeof kept, 0), "write_stored: a point");
+    expect(memcmp(out, kept, sizeof kept) == 0 && out[sizeof kept] == 0, "write_stored: its bytes, then zero");
+    doorhollow_write_stored_1(bytes(text), strlen(text), nodes, 3, numbers, 4, out, sizeof kept - 1, answer);
+    expect(is(answer, DOORHOLLOW_NO_ROOM, 0, 0, 0) && out[0] == 0, "write_stored: no room");
+    doorhollow_write_stored_1(bytes(text), strlen(text), nodes, 3, numbers, 2, out, sizeof out, answer);
+    expect(is(answer, DOORHOLLOW_ILL_FORMED_STORE, 0, 0, 0), "write_stored: no store");
+    doorhollow_read_stored_1(kept, sizeof kept, nodes, 3, numbers, 4, answer);
+    expect(is(answer, DOORHOLLOW_OK, 0, 1, 2), "read_stored: a point");
+    expect(numbers[0] == 18 && numbers[1] == 1 && numbers[2] == 22 && numbers[3] == 1, "read_stored: spans in the bytes");
+    doorhollow_write(kept, sizeof kept, nodes, 3, numbers, 4, out, sizeof out, answer);
+    expect(is(answer, DOORHOLLOW_OK, 0, 10, 0) && memcmp(out, "POINT(1 2)", 10) == 0, "read_stored: its canonical text");
+    doorhollow_read_stored_1(kept, sizeof kept, nodes, 2, numbers, 4, answer);
+    expect(is(answer, DOORHOLLOW_NO_NODE_ROW, 8, 0, 0) && numbers[0] == 0, "read_stored: no node row");
+    doorhollow_read_stored_1(kept, sizeof kept, nodes, 3, numbers, 3, answer);
+    expect(is(answer, DOORHOLLOW_NO_NUMBER_ROW, 19, 0, 0), "read_stored: no number row");
+    doorhollow_read_stored_1(kept, sizeof kept - 1, nodes, 3, numbers, 4, answer);
+    expect(is(answer, DOORHOLLOW_FAULTY_FIELD, 19, 0, 0), "read_stored: a field is cut");
+    memcpy(wrong, kept, sizeof kept);
+    wrong[3] = 2;
+    doorhollow_read_stored_1(wrong, sizeof wrong, nodes, 3, numbers, 4, answer);
+    expect(is(answer, DOORHOLLOW_UNKNOWN_VERSION, 3, 0, 0), "read_stored: another version");
+    wrong[3] = 1;
+    wrong[18] = 'x';
+    doorhollow_read_stored_1(wrong, sizeof wrong, nodes, 0, numbers, 0, answer);
+    expect(is(answer, DOORHOLLOW_ILL_FORMED_STORE, 0, 0, 0), "read_stored: no tree, before any row is asked for");
+}
+
 static void test_strict(void)
 {
     const char *text = "POLYGON((0 0,1 0,1 1,0 1))";
@@ -150,6 +188,7 @@ int main(void)
     test_store();
     test_refusals();
     test_rooms();
+    test_stored();
     test_strict();
     test_infer_type();
     return failures > 0;

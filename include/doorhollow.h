@@ -31,13 +31,16 @@ extern "C" {
 #define DOORHOLLOW_TEXT_LIMIT 65535
 #define DOORHOLLOW_DEPTH_LIMIT 32
 
+/* The most bytes that a stored tree of version 1 may have. */
+#define DOORHOLLOW_STORED_1_LIMIT 1048576
+
 /* The places of an answer, and how many there are. */
 #define DOORHOLLOW_ANSWER_PLACES 4
 #define DOORHOLLOW_NUMBER 0      /* every entry */
-#define DOORHOLLOW_PLACE 1       /* read, write, infer_type */
-#define DOORHOLLOW_NODE_COUNT 2  /* read */
+#define DOORHOLLOW_PLACE 1       /* readers, writers, infer_type */
+#define DOORHOLLOW_NODE_COUNT 2  /* readers */
 #define DOORHOLLOW_NUMBER_COUNT 3
-#define DOORHOLLOW_LENGTH 2      /* write */
+#define DOORHOLLOW_LENGTH 2      /* writers */
 #define DOORHOLLOW_LETTER 1      /* strict */
 #define DOORHOLLOW_ROW 2
 #define DOORHOLLOW_INFERRED_KIND 2 /* infer_type */
@@ -74,7 +77,7 @@ extern "C" {
 /* The refusals. Beside each stands its message, for 6 to 21 that of the Rust crate wkt; 19 names the prefix after it. */
 #define DOORHOLLOW_OK 0
 /* tools/refusals: from here on */
-#define DOORHOLLOW_TEXT_TOO_LONG 1 /* The text has more than 65,535 bytes */
+#define DOORHOLLOW_TEXT_TOO_LONG 1 /* More bytes than a text (65,535) or a stored tree (1,048,576) may have */
 #define DOORHOLLOW_ILL_FORMED_UTF8 2 /* The text is not well-formed UTF-8 */
 #define DOORHOLLOW_NO_NODE_ROW 3 /* No room for another node */
 #define DOORHOLLOW_NO_NUMBER_ROW 4 /* No room for another number */
@@ -96,9 +99,9 @@ extern "C" {
 #define DOORHOLLOW_EMPTY_WITHOUT_SPACE 20 /* Invalid WKT; no whitespace between geometry type and EMPTY. */
 #define DOORHOLLOW_NEITHER_PAREN_NOR_EMPTY 21 /* Invalid WKT; no '(' character and not EMPTY */
 #define DOORHOLLOW_ILL_FORMED_STORE 22 /* The rows are not a well-formed store */
-#define DOORHOLLOW_NO_ROOM 23 /* The canonical text is longer than the room */
+#define DOORHOLLOW_NO_ROOM 23 /* What is written is longer than the room */
 #define DOORHOLLOW_NON_ASCII 24 /* The part that names the type is not ASCII */
-#define DOORHOLLOW_FAULTY_FIELD 25 /* A field is cut, missing, left over, or has another tag or length than the stored form */
+#define DOORHOLLOW_FAULTY_FIELD 25 /* A field is cut, missing, extra or of wrong tag or length */
 #define DOORHOLLOW_UNKNOWN_VERSION 26 /* The stored bytes are of another version */
 #define DOORHOLLOW_DOES_NOT_FIT 27 /* A count, a number's text or the whole is too large for the stored form */
 /* tools/refusals: up to here */
@@ -138,6 +141,41 @@ void doorhollow_write(const uint8_t *text, size_t text_length,
                       const uint32_t *numbers, size_t number_places,
                       uint8_t *out, size_t room,
                       uint64_t answer[DOORHOLLOW_ANSWER_PLACES]);
+
+/*
+ * Writes a store, lent as for doorhollow_write, as stored bytes of version 1:
+ * fields of a one-byte tag, a two-byte length (the higher byte first) and the
+ * content. Tag 1 once, first: version 1, node count, number count (two bytes
+ * each); tag 2 for each node: kind, dimension, parts (1, 1 and 2 bytes); tag 3
+ * for each number: its text. So there are 8 bytes, 7 for each node, and 3 for
+ * each number with those of its text. One tree has one stored form.
+ *
+ * answer: number, place, count of bytes written, 0.
+ * Every byte of the room after them is 0, and after a refusal every byte.
+ * Refusals 22, then 27 (a count or a number's text over 65,535, or more than
+ * DOORHOLLOW_STORED_1_LIMIT bytes in all), then 23, with place 0.
+ */
+void doorhollow_write_stored_1(const uint8_t *text, size_t text_length,
+                               const uint32_t *nodes, size_t node_places,
+                               const uint32_t *numbers, size_t number_places,
+                               uint8_t *out, size_t room,
+                               uint64_t answer[DOORHOLLOW_ANSWER_PLACES]);
+
+/*
+ * Reads stored bytes of version 1 into rows, as doorhollow_read does with a
+ * text. The numbers' texts lie in the stored bytes: lend those as the text of
+ * the store from then on. byte_count / 7 node rows and byte_count / 3 number
+ * rows are enough; bytes 4 to 7 tell how many there are.
+ *
+ * answer: number, place, count of node rows, count of number rows.
+ * Every place of both slices after the used rows is 0, and after a refusal
+ * every place. Refusals 1, 26, 25, 22, then 3 and 4, with the places that the
+ * list above has.
+ */
+void doorhollow_read_stored_1(const uint8_t *bytes, size_t byte_count,
+                              uint32_t *nodes, size_t node_places,
+                              uint32_t *numbers, size_t number_places,
+                              uint64_t answer[DOORHOLLOW_ANSWER_PLACES]);
 
 /*
  * Checks a store, lent as for doorhollow_write, by the strict rules: A, a line

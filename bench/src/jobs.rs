@@ -24,6 +24,10 @@ pub enum Work {
     Write,
     /// The proved writer without room: it checks the whole store, puts nothing, and answers 23.
     Check,
+    /// The proved reader of stored bytes, with exactly the rows that the tree needs.
+    Kept,
+    /// The proved writer of stored bytes, into a room that they fit exactly.
+    Keep,
     /// The Rust's reader. Its tree is freed, and that counts.
     Rust,
     /// The standard library's UTF-8 check, which a `str` has behind it.
@@ -32,12 +36,14 @@ pub enum Work {
     RustDoubles,
 }
 
-pub const WORKS: [Work; 8] = [
+pub const WORKS: [Work; 10] = [
     Work::Exact,
     Work::Ample,
     Work::Utf8,
     Work::Write,
     Work::Check,
+    Work::Kept,
+    Work::Keep,
     Work::Rust,
     Work::RustUtf8,
     Work::RustDoubles,
@@ -51,6 +57,8 @@ impl Work {
             Work::Utf8 => "utf8",
             Work::Write => "write",
             Work::Check => "check",
+            Work::Kept => "kept",
+            Work::Keep => "keep",
             Work::Rust => "rust",
             Work::RustUtf8 => "rust-utf8",
             Work::RustDoubles => "rust-doubles",
@@ -63,14 +71,16 @@ impl Work {
 
     /// A refused text has nothing to write or to check.
     pub fn applies_to(self, sample: &Sample) -> bool {
-        !matches!(self, Work::Write | Work::Check) || sample.is_accepted()
+        !matches!(self, Work::Write | Work::Check | Work::Keep) || sample.is_accepted()
     }
 
     /// The bytes that an amount is divided by: those of the canonical text for the writer
-    /// and its check, else those read.
+    /// and its check, the stored bytes for their writer, else those of the text, also for the
+    /// reader of the stored bytes that were made from it.
     pub fn bytes_of(self, sample: &Sample) -> usize {
         match self {
             Work::Write | Work::Check => sample.canonical.len(),
+            Work::Keep => sample.stored.len(),
             _ => sample.text.len(),
         }
     }
@@ -122,7 +132,9 @@ impl<'a> Job<'a> {
 
 fn rows_lent(work: Work, sample: &Sample) -> (Vec<u32>, Vec<u32>) {
     match work {
-        Work::Exact | Work::Write | Work::Check => (sample.nodes.clone(), sample.numbers.clone()),
+        Work::Exact | Work::Write | Work::Check | Work::Kept | Work::Keep => {
+            (sample.nodes.clone(), sample.numbers.clone())
+        }
         Work::Ample => (vec![1; AMPLE_NODES], vec![1; AMPLE_NUMBERS]),
         _ => (Vec::new(), Vec::new()),
     }
@@ -131,11 +143,15 @@ fn rows_lent(work: Work, sample: &Sample) -> (Vec<u32>, Vec<u32>) {
 fn room_lent(work: Work, sample: &Sample) -> Vec<u8> {
     match work {
         Work::Check => Vec::new(),
+        Work::Keep => sample.stored.clone(),
         _ => sample.canonical.clone(),
     }
 }
 
 fn bytes_read(work: Work, sample: &Sample) -> Vec<u8> {
+    if work == Work::Kept {
+        return sample.stored.clone();
+    }
     let mut bytes = sample.text.clone().into_bytes();
     if let (Work::Utf8, Some(last)) = (work, bytes.last_mut()) {
         *last = 0xFF;
@@ -149,8 +165,9 @@ fn expected_number(work: Work, sample: &Sample) -> u64 {
         Work::Exact | Work::Ample => sample.answer.number,
         Work::Utf8 => 2,
         Work::Check => 23,
+        Work::Kept if !sample.is_accepted() => 22,
         Work::Rust => u64::from(!sample.is_accepted()),
-        Work::Write | Work::RustUtf8 | Work::RustDoubles => 0,
+        Work::Kept | Work::Keep | Work::Write | Work::RustUtf8 | Work::RustDoubles => 0,
     }
 }
 
@@ -163,6 +180,10 @@ fn measured(job: &mut Job) -> u64 {
         }
         Work::Write | Work::Check => {
             library::write(&job.bytes, &job.nodes, &job.numbers, &mut job.out).number
+        }
+        Work::Kept => library::read_stored(&job.bytes, &mut job.nodes, &mut job.numbers).number,
+        Work::Keep => {
+            library::write_stored(&job.bytes, &job.nodes, &job.numbers, &mut job.out).number
         }
         Work::Rust => u64::from(Wkt::<f64>::from_str(job.text).is_err()),
         Work::RustUtf8 => u64::from(std::str::from_utf8(&job.bytes).is_err()),

@@ -23,6 +23,26 @@ extern "C" {
         out_length: usize,
         answer: *mut [u64; ANSWER_PLACES],
     );
+    fn doorhollow_read_stored_1(
+        bytes: *const u8,
+        byte_count: usize,
+        nodes: *mut u32,
+        nodes_length: usize,
+        numbers: *mut u32,
+        numbers_length: usize,
+        answer: *mut [u64; ANSWER_PLACES],
+    );
+    fn doorhollow_write_stored_1(
+        text: *const u8,
+        text_length: usize,
+        nodes: *const u32,
+        nodes_length: usize,
+        numbers: *const u32,
+        numbers_length: usize,
+        out: *mut u8,
+        out_length: usize,
+        answer: *mut [u64; ANSWER_PLACES],
+    );
 }
 
 #[derive(Clone, Copy, Debug, PartialEq, Eq)]
@@ -69,6 +89,53 @@ pub fn write(text: &[u8], nodes: &[u32], numbers: &[u32], out: &mut [u8]) -> Wri
     // SAFETY: as in `read`.
     unsafe {
         doorhollow_write(
+            text.as_ptr(),
+            text.len(),
+            nodes.as_ptr(),
+            nodes.len(),
+            numbers.as_ptr(),
+            numbers.len(),
+            out.as_mut_ptr(),
+            out.len(),
+            &mut answer,
+        );
+    }
+    let [number, place, length, _] = answer;
+    WriteAnswer {
+        number,
+        place,
+        length,
+    }
+}
+
+pub fn read_stored(bytes: &[u8], nodes: &mut [u32], numbers: &mut [u32]) -> ReadAnswer {
+    let mut answer = [0; ANSWER_PLACES];
+    // SAFETY: as in `read`.
+    unsafe {
+        doorhollow_read_stored_1(
+            bytes.as_ptr(),
+            bytes.len(),
+            nodes.as_mut_ptr(),
+            nodes.len(),
+            numbers.as_mut_ptr(),
+            numbers.len(),
+            &mut answer,
+        );
+    }
+    let [number, place, nodes, numbers] = answer;
+    ReadAnswer {
+        number,
+        place,
+        nodes,
+        numbers,
+    }
+}
+
+pub fn write_stored(text: &[u8], nodes: &[u32], numbers: &[u32], out: &mut [u8]) -> WriteAnswer {
+    let mut answer = [0; ANSWER_PLACES];
+    // SAFETY: as in `read`.
+    unsafe {
+        doorhollow_write_stored_1(
             text.as_ptr(),
             text.len(),
             nodes.as_ptr(),

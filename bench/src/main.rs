@@ -32,11 +32,14 @@ fn answer(words: &[&str]) -> Result<(), String> {
     match words {
         ["quick"] => tables::quick(),
         ["times"] => tables::times(),
+        ["stored"] => tables::stored(),
         ["full", others] => tables::full(Path::new(others)),
         ["functions", counts, kind] => functions(counts, kind, Work::Exact.name()),
         ["functions", counts, kind, work] => functions(counts, kind, work),
         ["once", work, kind, size] => once(work, kind, size),
-        _ => Err("usage: bench/run [--quick | --times | --functions TEXT [WORK]]".to_string()),
+        _ => Err(
+            "usage: bench/run [--quick | --times | --stored | --functions TEXT [WORK]]".to_string(),
+        ),
     }
 }
 

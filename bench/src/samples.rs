@@ -27,6 +27,8 @@ pub struct Sample {
     pub numbers: Vec<u32>,
     /// Empty if the text is refused.
     pub canonical: Vec<u8>,
+    /// The stored bytes of the rows; if the text is refused, with a wrong last byte.
+    pub stored: Vec<u8>,
 }
 
 struct Rows {
@@ -58,6 +60,10 @@ impl Sample {
             0 => canonical_of(&text, &rows)?,
             _ => Vec::new(),
         };
+        let mut stored = stored_of(&kind.accepted_text(size), &rows)?;
+        if let (1.., Some(last)) = (answer.number, stored.last_mut()) {
+            *last = b'x';
+        }
         Ok(Sample {
             kind,
             size,
@@ -66,6 +72,7 @@ impl Sample {
             nodes: rows.nodes,
             numbers: rows.numbers,
             canonical,
+            stored,
         })
     }
 
@@ -164,4 +171,37 @@ fn canonical_of(text: &str, rows: &Rows) -> Result<Vec<u8>, String> {
     hold(answer.number == 0, "the writer refuses its rows")?;
     out.truncate(answer.length as usize);
     Ok(out)
+}
+
+/// The stored bytes, which have to be read back to the same rows and number texts, and to be
+/// written again from them. A field has 3 bytes more than its content, and there are no more
+/// fields than bytes of text.
+fn stored_of(text: &str, rows: &Rows) -> Result<Vec<u8>, String> {
+    let mut out = vec![0; 8 * text.len()];
+    let answer = library::write_stored(text.as_bytes(), &rows.nodes, &rows.numbers, &mut out);
+    hold(answer.number == 0, "the stored writer refuses its rows")?;
+    out.truncate(answer.length as usize);
+    let mut nodes = vec![UNCLEARED; rows.nodes.len()];
+    let mut numbers = vec![UNCLEARED; rows.numbers.len()];
+    let back = library::read_stored(&out, &mut nodes, &mut numbers);
+    hold(back.number == 0, "the stored reader refuses its bytes")?;
+    hold(nodes == rows.nodes, "the stored bytes have other nodes")?;
+    let mut pairs = numbers
+        .chunks(NUMBER_WIDTH)
+        .zip(rows.numbers.chunks(NUMBER_WIDTH));
+    hold(
+        pairs.all(|(kept, read)| part(&out, kept) == part(text.as_bytes(), read)),
+        "the stored bytes have other numbers",
+    )?;
+    let mut again = vec![0; out.len()];
+    let answer = library::write_stored(&out, &nodes, &numbers, &mut again);
+    hold(
+        answer.number == 0 && again == out,
+        "they are written otherwise again",
+    )?;
+    Ok(out)
+}
+
+fn part<'a>(bytes: &'a [u8], row: &[u32]) -> &'a [u8] {
+    &bytes[row[0] as usize..(row[0] + row[1]) as usize]
 }

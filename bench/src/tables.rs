@@ -28,7 +28,9 @@ pub fn full(others: &Path) -> Result<(), String> {
     print_texts(&samples);
     print_reading(&samples, &mut counter)?;
     print_shares(&samples, &mut counter)?;
+    print_stored(&samples, &mut counter)?;
     print_times(&samples);
+    print_stored_times(&samples);
     print_growth(&mut counter)?;
     let (found, missing) = others::built(others)?;
     for other in found {
@@ -149,9 +151,78 @@ fn of_writing(
     }
 }
 
+/// The stored form beside the text.
+pub fn stored() -> Result<(), String> {
+    let samples = all_of_size(LIMIT)?;
+    print_stored(&samples, &mut Counter::default())?;
+    print_stored_times(&samples);
+    Ok(())
+}
+
+const STORED: [Work; 3] = [Work::Exact, Work::Kept, Work::Rust];
+const STORED_HEADS: [&str; 7] = [
+    "text",
+    "stored bytes",
+    "reading the text",
+    "reading the stored bytes",
+    "stored ÷ text",
+    "stored ÷ Rust",
+    "writing, per byte written",
+];
+
+/// A row for the amounts of `STORED`, and that of the writing.
+fn stored_row(sample: &Sample, amounts: &[f64], writing: Option<f64>) -> [String; 7] {
+    let [text, stored, rust] = [amounts[0], amounts[1], amounts[2]];
+    [
+        sample.kind.name().to_string(),
+        sample.stored.len().to_string(),
+        amount(text),
+        amount(stored),
+        amount(stored / text),
+        amount(stored / rust),
+        writing.map_or(NOTHING.to_string(), amount),
+    ]
+}
+
+fn print_stored(samples: &[Sample], counter: &mut Counter) -> Result<(), String> {
+    title("Stored trees: instructions, of the readings per byte of the text");
+    head(&STORED_HEADS);
+    for sample in samples {
+        let mut counts = Vec::new();
+        for work in STORED {
+            counts.push(counter.instructions(work, sample)?);
+        }
+        let writing = match Work::Keep.applies_to(sample) {
+            true => Some(counter.instructions(Work::Keep, sample)?),
+            false => None,
+        };
+        row(&stored_row(sample, &counts, writing));
+    }
+    Ok(())
+}
+
+fn print_stored_times(samples: &[Sample]) {
+    title(&format!(
+        "Stored trees: nanoseconds, of the readings per byte of the text, the least of {ROUNDS} runs"
+    ));
+    head(&STORED_HEADS);
+    for sample in samples {
+        let mut works = STORED.to_vec();
+        works.extend(Some(Work::Keep).filter(|work| work.applies_to(sample)));
+        let times = nanoseconds(&works, sample);
+        row(&stored_row(
+            sample,
+            &times,
+            times.get(STORED.len()).copied(),
+        ));
+    }
+}
+
 /// The times of the reading and the writing.
 pub fn times() -> Result<(), String> {
-    print_times(&all_of_size(LIMIT)?);
+    let samples = all_of_size(LIMIT)?;
+    print_times(&samples);
+    print_stored_times(&samples);
     Ok(())
 }
 

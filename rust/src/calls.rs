@@ -36,6 +36,28 @@ extern "C" {
         answer: *mut Answer,
     );
 
+    fn doorhollow_read_stored_1(
+        bytes: *const u8,
+        byte_count: usize,
+        nodes: *mut u32,
+        node_places: usize,
+        numbers: *mut u32,
+        number_places: usize,
+        answer: *mut Answer,
+    );
+
+    fn doorhollow_write_stored_1(
+        text: *const u8,
+        text_length: usize,
+        nodes: *const u32,
+        node_places: usize,
+        numbers: *const u32,
+        number_places: usize,
+        out: *mut u8,
+        room: usize,
+        answer: *mut Answer,
+    );
+
     fn doorhollow_strict(
         text: *const u8,
         text_length: usize,
@@ -102,6 +124,54 @@ pub fn write_rows(
     // SAFETY: as in `read`.
     unsafe {
         doorhollow_write(
+            text.as_ptr(),
+            text.len(),
+            nodes.as_ptr(),
+            nodes.len(),
+            numbers.as_ptr(),
+            numbers.len(),
+            out.as_mut_ptr(),
+            out.len(),
+            &mut answer,
+        );
+    }
+    accepted(answer).map(|answer| answer[2] as usize)
+}
+
+/// The counts of the used rows.
+pub(crate) fn read_stored(
+    bytes: &[u8],
+    nodes: &mut [u32],
+    numbers: &mut [u32],
+) -> Result<(usize, usize), Refusal> {
+    let mut answer = [0; ANSWER_PLACES];
+    // SAFETY: as in `read`.
+    unsafe {
+        doorhollow_read_stored_1(
+            bytes.as_ptr(),
+            bytes.len(),
+            nodes.as_mut_ptr(),
+            nodes.len(),
+            numbers.as_mut_ptr(),
+            numbers.len(),
+            &mut answer,
+        );
+    }
+    accepted(answer).map(|answer| (answer[2] as usize, answer[3] as usize))
+}
+
+/// Writes rows as stored bytes into a room, and answers how many they are. The rows are the used ones only. What lies
+/// after the bytes is zero, and after a refusal, 22, 27 or 23, all of the room.
+pub fn write_stored_rows(
+    text: &[u8],
+    nodes: &[u32],
+    numbers: &[u32],
+    out: &mut [u8],
+) -> Result<usize, Refusal> {
+    let mut answer = [0; ANSWER_PLACES];
+    // SAFETY: as in `read`.
+    unsafe {
+        doorhollow_write_stored_1(
             text.as_ptr(),
             text.len(),
             nodes.as_ptr(),

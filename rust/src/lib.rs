@@ -10,6 +10,9 @@
 //! # Ok::<(), doorhollow::Refusal>(())
 //! ```
 //!
+//! A tree can be kept as bytes and in files, which are smaller work to read than the text was ([`Tree::to_stored`],
+//! [`read_stored`], [`Tree::save`], [`load`]): one tree has one stored form, and what isn't one is refused.
+//!
 //! A tree is rows: each node is one, and its children's rows follow it. Nodes are named by the index of their row,
 //! from 0, which is the root. Numbers are parts of the text that was read, and no doubles: parse them as you need.
 #![warn(missing_docs)]
@@ -18,10 +21,14 @@ mod calls;
 mod explain;
 mod refusal;
 pub mod refusals;
+mod stored;
 mod tree;
 
-pub use calls::{enough_rows, strict_rows, write_rows, NODE_WIDTH, NUMBER_WIDTH};
+pub use calls::{
+    enough_rows, strict_rows, write_rows, write_stored_rows, NODE_WIDTH, NUMBER_WIDTH,
+};
 pub use refusal::Refusal;
+pub use stored::{load, read_stored, read_stored_into, FileError, Loaded, STORED_LIMIT};
 pub use tree::{Children, Coordinate, Coordinates, Node, Tree, Walk};
 
 use std::borrow::Cow;

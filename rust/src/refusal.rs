@@ -2,12 +2,12 @@
 use crate::refusals;
 use std::fmt;
 
-/// Why a text was refused, and where.
+/// Why a text, stored bytes or rows were refused, and where.
 #[derive(Clone, Copy, Debug, PartialEq, Eq, Hash)]
 pub struct Refusal {
-    /// 1 to 24; [`refusals`](crate::refusals) has their names.
+    /// 1 to 27; [`refusals`](crate::refusals) has their names.
     pub number: u32,
-    /// A byte of the text, or its length.
+    /// A byte of the text or of the stored bytes, or their length.
     pub place: usize,
 }
 

@@ -1,6 +1,6 @@
 //! The numbers of the refusals by name, with their messages: made by tools/refusals from crates/refusals/table.txt.
 
-/// `The text has more than 65,535 bytes`
+/// `More bytes than a text (65,535) or a stored tree (1,048,576) may have`
 pub const TEXT_TOO_LONG: u32 = 1;
 
 /// `The text is not well-formed UTF-8`
@@ -66,13 +66,13 @@ pub const NEITHER_PAREN_NOR_EMPTY: u32 = 21;
 /// `The rows are not a well-formed store`
 pub const ILL_FORMED_STORE: u32 = 22;
 
-/// `The canonical text is longer than the room`
+/// `What is written is longer than the room`
 pub const NO_ROOM: u32 = 23;
 
 /// `The part that names the type is not ASCII`
 pub const NON_ASCII: u32 = 24;
 
-/// `A field is cut, missing, left over, or has another tag or length than the stored form`
+/// `A field is cut, missing, extra or of wrong tag or length`
 pub const FAULTY_FIELD: u32 = 25;
 
 /// `The stored bytes are of another version`
@@ -83,7 +83,7 @@ pub const DOES_NOT_FIT: u32 = 27;
 
 pub(crate) fn message(number: u32) -> &'static str {
     match number {
-        TEXT_TOO_LONG => "The text has more than 65,535 bytes",
+        TEXT_TOO_LONG => "More bytes than a text (65,535) or a stored tree (1,048,576) may have",
         ILL_FORMED_UTF8 => "The text is not well-formed UTF-8",
         NO_NODE_ROW => "No room for another node",
         NO_NUMBER_ROW => "No room for another number",
@@ -105,9 +105,9 @@ pub(crate) fn message(number: u32) -> &'static str {
         EMPTY_WITHOUT_SPACE => "Invalid WKT; no whitespace between geometry type and EMPTY.",
         NEITHER_PAREN_NOR_EMPTY => "Invalid WKT; no '(' character and not EMPTY",
         ILL_FORMED_STORE => "The rows are not a well-formed store",
-        NO_ROOM => "The canonical text is longer than the room",
+        NO_ROOM => "What is written is longer than the room",
         NON_ASCII => "The part that names the type is not ASCII",
-        FAULTY_FIELD => "A field is cut, missing, left over, or has another tag or length than the stored form",
+        FAULTY_FIELD => "A field is cut, missing, extra or of wrong tag or length",
         UNKNOWN_VERSION => "The stored bytes are of another version",
         DOES_NOT_FIT => "A count, a number's text or the whole is too large for the stored form",
         _ => "Unknown refusal",

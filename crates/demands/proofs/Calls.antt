@@ -22,8 +22,9 @@ use Rattle.shape.specs.Store.{allRows, allSpans, allTexts, wellFormed, treeOf}
 use Rattle.shape.proofs.Stores.{tree-of, is-well-formed}
 use Rattle.shape.proofs.Slices.{flat-rows, flat-spans, flat-whole, used-rows, used-spans}
 use Rattle.store.specs.declared.WriteAnswer.{WriteAnswer}
+use Rattle.store.specs.Answers.{wrote, writeAnswer, roomAfter}
 use Rattle.to_wkt.specs.Canonical.{storeText}
-use Rattle.to_wkt.specs.Write.{accepted, answerOf, roomAfter, Written}
+use Rattle.to_wkt.specs.Write.{outputOf, Written}
 use Rattle.demands.specs.Calls.{Read, usedNodes, usedNumbers}
 
 -- ---- what a reading was, by its answer
@@ -80,5 +81,5 @@ module _ (text ns ms : List ℕ) (a : ReadAnswer) (ns′ ms′ : List ℕ) (rs :
       is-well-formed text (usedNodes a ns′) (usedNumbers a ms′) (w .tree) (its-store (w .tree) (w .is))
 
 -- ---- what a writing says of a store that has a canonical text, with room for it
-pub said : (text nodes numbers b : List ℕ) (room : ℕ) (r : WriteAnswer) (bytes : List ℕ) → storeText text nodes numbers ≡ some b → length b ≤ room → Written text nodes numbers room r bytes → (r ≡ accepted (length b)) × (bytes ≡ padded b room)
-said text nodes numbers b room r bytes e h w = (w .answer ∙ ap (λ o. answerOf o room) e ∙ rw (le-leb (length b) room h), w .bytes ∙ ap (λ o. roomAfter o room) e ∙ rw (le-leb (length b) room h))
+pub said : (text nodes numbers b : List ℕ) (room : ℕ) (r : WriteAnswer) (bytes : List ℕ) → storeText text nodes numbers ≡ some b → length b ≤ room → Written text nodes numbers room r bytes → (r ≡ wrote (length b)) × (bytes ≡ padded b room)
+said text nodes numbers b room r bytes e h w = (w .answer ∙ ap (λ o. writeAnswer (outputOf o) room) e ∙ rw (le-leb (length b) room h), w .bytes ∙ ap (λ o. roomAfter (outputOf o) room) e ∙ rw (le-leb (length b) room h))

@@ -35,7 +35,7 @@ use Rattle.grammar.proofs.After.{accepted}
 use Rattle.grammar.proofs.Fuel.{reading-refusals, reading-halts, reading-kept}
 use Rattle.store.specs.declared.ReadAnswer.{ReadAnswer}
 use Rattle.wkt.specs.Leaves as read
-use Rattle.wkt.specs.Leaves.{Leaves, leaves-one}
+use Rattle.wkt.specs.Leaves.{Leaves}
 use Rattle.shape.specs.declared.Visit.{Visit}
 use Rattle.shape.specs.declared.Frame.{Frame}
 use Rattle.shape.specs.declared.Met.{Met}
@@ -53,9 +53,9 @@ use Rattle.strict.specs.Outcome as outcome
 use Rattle.strict.specs.Outcome.{Outcome}
 use Rattle.strict.proofs.Outcome.{first-fault}
 use Rattle.store.specs.declared.WriteAnswer.{WriteAnswer}
+use Rattle.store.specs.Answers.{leaves-one, wrote, notWritten, writeAnswer, roomAfter, writes-one}
 use Rattle.to_wkt.specs.Canonical.{storeText, theText, writtenText}
-use Rattle.to_wkt.specs.Write as write
-use Rattle.to_wkt.specs.Write.{answerOf, roomAfter}
+use Rattle.to_wkt.specs.Write.{outputOf}
 use Rattle.demands.specs.Faults.{PlaceOf, over-limit, ill-formed, at-fault, AtFault, no-node, no-number, too-deep, bad-number, not-ascii, no-root, no-name, no-header, no-ending, not-opened, not-closed, no-x, no-y, no-z, no-m, no-child, stopped}
 use Rattle.demands.specs.Demand1.{OneReading, OneWritten, RefusedReading, ReadRefuses, ReadPlaces, ReadAccepts, WriteRefuses, Writing, no-store, too-long, fits, WriteAnswers, OneChecked, Verdict, ill-store, passes, fails, StrictAnswers, OneInferred, TypeAnswers, isTypeRefusal, TypeRefuses, OneTaken, OneLooked, TakesFirst, LooksOnly, ComesOut, ReadsBySteps, ReadTooLong, ReadIllFormed}
 use Rattle.demands.specs.Steps.{Came, read-whole}
@@ -67,7 +67,7 @@ pub one-reading : OneReading
 one-reading text ns ms a ns′ ms′ c ns″ ms″ x y = leaves-one x y
 
 pub one-written : OneWritten
-one-written text nodes numbers room r r′ bytes bytes′ x y = (x .answer ∙ sym (y .answer), x .bytes ∙ sym (y .bytes))
+one-written text nodes numbers room r r′ bytes bytes′ x y = writes-one x y
 
 or-left : (a b : Bool) → a ≡ true → (a || b) ≡ true
 or-left true b e = refl
@@ -81,7 +81,7 @@ all-zero : (n : ℕ) → padded [] n ≡ zeros n
 all-zero n = let z : n - 0 ≡ n = omega arith in ap zeros z
 
 -- what a refusal's answer and zeros come to
-refusal-leaves : (text ns ms : List ℕ) (a : ReadAnswer) (ns′ ms′ : List ℕ) (f : Refusal) → (isRefusal (f .number) || isHalt (f .number)) ≡ true → f .place ≤ length text → a ≡ read.refusal f → ns′ ≡ padded [] (length ns) → ms′ ≡ padded [] (length ms) → RefusedReading text ns ms a ns′ ms′
+refusal-leaves : (text ns ms : List ℕ) (a : ReadAnswer) (ns′ ms′ : List ℕ) (f : Refusal) → (isRefusal (f .number) || isHalt (f .number)) ≡ true → f .place ≤ length text → a ≡ read.answerOf (refused f) → ns′ ≡ padded [] (length ns) → ms′ ≡ padded [] (length ms) → RefusedReading text ns ms a ns′ ms′
 refusal-leaves text ns ms a ns′ ms′ f n p e en em =
     record {
       number = rw e n;
@@ -120,11 +120,11 @@ read-places text ns ms a ns′ ms′ r h = go (overLimit (length text)) refl (is
     Say g = a ≡ read.answerOf g → PlaceOf N M text (a .number) (a .place)
 
     -- what the tokens are refused with
-    met : (f : Refusal) (s : Str) → Passes text → Faulty N M (toks text 0) [] f s → a ≡ read.refusal f → PlaceOf N M text (a .number) (a .place)
+    met : (f : Refusal) (s : Str) → Passes text → Faulty N M (toks text 0) [] f s → a ≡ read.answerOf (refused f) → PlaceOf N M text (a .number) (a .place)
     met _ _ p (faulty q w v) e = rw e (at-fault p q w v)
 
     -- and stopped by
-    ended : (f : Refusal) → Passes text → Stopped N M (toks text 0) f → a ≡ read.refusal f → PlaceOf N M text (a .number) (a .place)
+    ended : (f : Refusal) → Passes text → Stopped N M (toks text 0) f → a ≡ read.answerOf (refused f) → PlaceOf N M text (a .number) (a .place)
     ended _ p (stopped-at q w v) e = rw e (stopped p q w v)
 
     tokens : (x : Ran Got) → Passes text → GotIn N M (toks text 0) [] (Came N M (toks text 0) [] read-whole) x → Say (answerIn x)
@@ -181,24 +181,24 @@ pub read-too-long : ReadTooLong
 unfolding reading
 read-too-long text ns ms a ns′ ms′ r = (
   (λ z. why text (read-places text ns ms a ns′ ms′ r (λ y. omega (arith, y, z))) .0 z),
-  λ l. (let e : a ≡ read.refusal (refusal 1 textLimit) = rw l at (r .answer) in ap (λ (x : ReadAnswer). x .number) e),
+  λ l. (let e : a ≡ read.answerOf (refused (refusal 1 textLimit)) = rw l at (r .answer) in ap (λ (x : ReadAnswer). x .number) e),
 )
 
 pub read-ill-formed : ReadIllFormed
 unfolding reading
 read-ill-formed text ns ms a ns′ ms′ r = (
   (λ z. why text (read-places text ns ms a ns′ ms′ r (λ y. omega (arith, y, z))) .1 z),
-  λ l. (let e : a ≡ read.refusal (refusal 2 (firstIll text)) = rw (l .0, l .1) at (r .answer) in ap (λ (x : ReadAnswer). x .number) e),
+  λ l. (let e : a ≡ read.answerOf (refused (refusal 2 (firstIll text))) = rw (l .0, l .1) at (r .answer) in ap (λ (x : ReadAnswer). x .number) e),
 )
 
 pub write-refuses : WriteRefuses
 write-refuses text nodes numbers room r bytes w h = go (storeText text nodes numbers) (w .answer) (w .bytes)
   where
-    fits : (b : Bool) (n : ℕ) (l : List ℕ) → r ≡ cond b (write.accepted n) (write.refused noRoom) → bytes ≡ cond b l (zeros room) → ((r ≡ write.refused illFormedStore) ⊎ (r ≡ write.refused noRoom)) × (bytes ≡ zeros room)
+    fits : (b : Bool) (n : ℕ) (l : List ℕ) → r ≡ cond b (wrote n) (notWritten noRoom) → bytes ≡ cond b l (zeros room) → ((r ≡ notWritten illFormedStore) ⊎ (r ≡ notWritten noRoom)) × (bytes ≡ zeros room)
     fits true n l e f = absurd (h (ap (λ (x : WriteAnswer). x .number) e))
     fits false n l e f = (inr e, f)
 
-    go : (o : Option (List ℕ)) → r ≡ answerOf o room → bytes ≡ roomAfter o room → ((r ≡ write.refused illFormedStore) ⊎ (r ≡ write.refused noRoom)) × (bytes ≡ zeros room)
+    go : (o : Option (List ℕ)) → r ≡ writeAnswer (outputOf o) room → bytes ≡ roomAfter (outputOf o) room → ((r ≡ notWritten illFormedStore) ⊎ (r ≡ notWritten noRoom)) × (bytes ≡ zeros room)
     go none e f = (inl e, f)
     go (some b) e f = fits (leb (length b) room) (length b) (padded b room) e f
 
@@ -223,11 +223,11 @@ write-answers text nodes numbers room r bytes w = go (treeOf text nodes numbers)
     its t = canonicalText t
 
     sized : (t : Tree depthLimit) → treeOf text nodes numbers ≡ some t → (b : Bool) → leb (length (its t)) room ≡ b
-        → Writing text nodes numbers room (cond b (write.accepted (length (its t))) (write.refused noRoom)) (cond b (padded (its t) room) (zeros room))
+        → Writing text nodes numbers room (cond b (wrote (length (its t))) (notWritten noRoom)) (cond b (padded (its t) room) (zeros room))
     sized t e true l = rw (← ap (λ o. theText (mapO canonicalText o)) e) (fits (rw e) (rw e (leb-true (length (its t)) room l)))
     sized t e false l = too-long (rw e) (rw e (leb-false (length (its t)) room l))
 
-    go : (o : Option (Tree depthLimit)) → treeOf text nodes numbers ≡ o → r ≡ answerOf (mapO canonicalText o) room → bytes ≡ roomAfter (mapO canonicalText o) room → Writing text nodes numbers room r bytes
+    go : (o : Option (Tree depthLimit)) → treeOf text nodes numbers ≡ o → r ≡ writeAnswer (outputOf (mapO canonicalText o)) room → bytes ≡ roomAfter (outputOf (mapO canonicalText o)) room → Writing text nodes numbers room r bytes
     go none e x y = rw (x, y) (no-store (rw e))
     go (some t) e x y = rw (x, y) (sized t e (leb (length (its t)) room) refl)
 

@@ -26,7 +26,8 @@ use Rattle.tree.proofs.TreeIn.{trees-own}
 use Rattle.grammar.proofs.WellRead.{reading-well-formed}
 use Rattle.grammar.proofs.Fuel.{reading-kept}
 use Rattle.store.specs.declared.ReadAnswer.{ReadAnswer}
-use Rattle.wkt.specs.Leaves.{Leaves, leaves-one, answerOf, rowsOf, spansOf, rootIn}
+use Rattle.store.specs.Answers.{usedRows, usedSpans, leaves-one}
+use Rattle.wkt.specs.Leaves.{Leaves, outcomeOf, answerOf, rootIn}
 use Rattle.shape.specs.Store.{mapO, treeOf}
 use Rattle.to_wkt.specs.Canonical.{storeText}
 use Rattle.demands.specs.Calls.{Read, usedNodes, usedNumbers}
@@ -97,7 +98,7 @@ reads-edges = all-edges edges every-edge
 theReader : Reader
 theReader text ns ms =
     let g : Got = reading (nodeRoom ns) (numberRoom ms) text in
-    record { answer = answerOf g; nodes = padded (rowsOf g) (length ns); numbers = padded (spansOf g) (length ms) }
+    record { answer = answerOf g; nodes = padded (usedRows (outcomeOf g)) (length ns); numbers = padded (usedSpans (outcomeOf g)) (length ms) }
 
 same-left : (x y : Left) → x .answer ≡ y .answer → x .nodes ≡ y .nodes → x .numbers ≡ y .numbers → x ≡ y
 same-left x y a n m = ap (λ (z : ReadAnswer). record { answer = z; nodes = x .nodes; numbers = x .numbers }) a ∙ ap (λ (z : List ℕ). record { answer = y .answer; nodes = z; numbers = x .numbers }) n ∙ ap (λ (z : List ℕ). record { answer = y .answer; nodes = y .nodes; numbers = z }) m

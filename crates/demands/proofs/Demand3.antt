@@ -35,9 +35,9 @@ use Rattle.shape.proofs.Slices.{front-of, same-store}
 use Rattle.form.specs.Form.{RoomFor, Filled, Lawful}
 use Rattle.form.proofs.Form.{one-tree, trees-equal, trees-again, tree-back, one-tree-one-writing}
 use Rattle.store.specs.declared.WriteAnswer.{WriteAnswer}
+use Rattle.store.specs.Answers.{wrote, notWritten, writeAnswer}
 use Rattle.to_wkt.specs.Canonical.{storeText, theText, writtenText}
-use Rattle.to_wkt.specs.Write.{accepted, answerOf}
-use Rattle.to_wkt.specs.Write as write
+use Rattle.to_wkt.specs.Write.{outputOf}
 use Rattle.to_wkt.proofs.Trees.{has-text}
 use Rattle.demands.specs.Calls.{Read, usedNodes, usedNumbers}
 use Rattle.demands.specs.Demand3.{FitsText, canonicalForm, textEntries, OneWritingOfTrees, OneWritingByCalls, Short, OneWriting, ReadsBack, ReadWell, NeverIll, ReadsAgain, Put, saidBy, Writer, MeetsWrite, WritesBack, FixedText, WritesNothing, MeetsBack, NoWriter}
@@ -116,10 +116,10 @@ pub never-ill : NeverIll
 never-ill text ns ms a ns′ ms′ r z room w bs x e =
     let nodes : List ℕ = usedNodes a ns′ in
     let numbers : List ℕ = usedNumbers a ms′ in
-    let q : w ≡ answerOf (some (writtenText text nodes numbers)) room = x .answer ∙ ap (λ o. answerOf o room) (has-text text numbers nodes (read-well text ns ms a ns′ ms′ r z)) in
+    let q : w ≡ writeAnswer (outputOf (some (writtenText text nodes numbers))) room = x .answer ∙ ap (λ o. writeAnswer (outputOf o) room) (has-text text numbers nodes (read-well text ns ms a ns′ ms′ r z)) in
     go (leb (length (writtenText text nodes numbers)) room) (length (writtenText text nodes numbers)) (sym (ap (λ (y : WriteAnswer). y .number) q) ∙ e)
   where
-    go : (b : Bool) (n : ℕ) → ((cond b (accepted n) (write.refused noRoom)) .number) ≡ illFormedStore → ⊥
+    go : (b : Bool) (n : ℕ) → ((cond b (wrote n) (notWritten noRoom)) .number) ≡ illFormedStore → ⊥
     go true n e = omega arith
     go false n e = omega arith
 
@@ -144,7 +144,7 @@ meets-said f m text nodes numbers room w z = go (leb (length b) room) refl
         let q = said text nodes numbers b room (its .answer) (its .bytes) (has-text text numbers nodes w) (leb-true (length b) room l) (m text nodes numbers room) in
         ap (λ (x : WriteAnswer). take (x .length) (its .bytes)) (q .0) ∙ ap (take (length b)) (q .1) ∙ front-of b (length b) room refl
     go false l =
-        let a : its .answer ≡ write.refused noRoom = m text nodes numbers room .answer ∙ ap (λ o. answerOf o room) (has-text text numbers nodes w) ∙ rw l in
+        let a : its .answer ≡ notWritten noRoom = m text nodes numbers room .answer ∙ ap (λ o. writeAnswer (outputOf o) room) (has-text text numbers nodes w) ∙ rw l in
         let e : _≡_ {A = ℕ} 23 0 = sym (ap (λ (x : WriteAnswer). x .number) a) ∙ z in
         absurd (omega (arith, e))
 

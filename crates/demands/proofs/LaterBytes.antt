@@ -25,7 +25,6 @@ use Rattle.grammar.specs.Reading.{enough, reading}
 use Rattle.grammar.specs.LastToken.{lastOf, lastToken, rootParts}
 use Rattle.grammar.proofs.After.{after-root, ends-closed}
 use Rattle.store.specs.declared.ReadAnswer.{ReadAnswer}
-use Rattle.wkt.specs.Leaves.{Leaves, answerOf}
 use Rattle.demands.specs.Calls.{Read, usedNodes, usedNumbers}
 use Rattle.demands.specs.Faults.{ByteAt, Starts}
 use Rattle.demands.specs.LaterBytes.{Ends, LaterBytes}

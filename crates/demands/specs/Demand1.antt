@@ -31,8 +31,9 @@ use Rattle.strict.specs.Rules.{noLetter}
 use Rattle.strict.specs.Strict.{answer}
 use Rattle.strict.specs.Outcome.{RulesHoldAt, Lowest}
 use Rattle.store.specs.declared.WriteAnswer.{WriteAnswer}
+use Rattle.store.specs.Answers.{wrote, notWritten}
 use Rattle.to_wkt.specs.Canonical.{writtenText}
-use Rattle.to_wkt.specs.Write.{accepted, refused, Written}
+use Rattle.to_wkt.specs.Write.{Written}
 use Rattle.demands.specs.Calls.{Read, usedNodes, usedNumbers, Checked, Inferring, Taken, LookedAt}
 use Rattle.demands.specs.Steps.{Came, read-whole}
 use Rattle.demands.specs.Faults.{PlaceOf}
@@ -88,13 +89,13 @@ ReadAccepts = (text ns ms : List ℕ) (a : ReadAnswer) (ns′ ms′ : List ℕ) 
 
 -- a refusal of `write`: 22 or 23 at place 0, and "A refusing writer zeroes its output"
 abbrev pub WriteRefuses : Type 0
-WriteRefuses = (text nodes numbers : List ℕ) (room : ℕ) (r : WriteAnswer) (bytes : List ℕ) → Written text nodes numbers room r bytes → (r .number ≡ 0 → ⊥) → ((r ≡ refused illFormedStore) ⊎ (r ≡ refused noRoom)) × (bytes ≡ zeros room)
+WriteRefuses = (text nodes numbers : List ℕ) (room : ℕ) (r : WriteAnswer) (bytes : List ℕ) → Written text nodes numbers room r bytes → (r .number ≡ 0 → ⊥) → ((r ≡ notWritten illFormedStore) ⊎ (r ≡ notWritten noRoom)) × (bytes ≡ zeros room)
 
 -- when each is answered: "The writer tests 22, then 23." "an accepting one zeroes what lies after the text"
 pub data Writing (text nodes numbers : List ℕ) (room : ℕ) : WriteAnswer → List ℕ → Type 0 where
-  no-store : wellFormed text nodes numbers ≡ false → Writing text nodes numbers room (refused illFormedStore) (zeros room)
-  too-long : wellFormed text nodes numbers ≡ true → room < length (writtenText text nodes numbers) → Writing text nodes numbers room (refused noRoom) (zeros room)
-  fits : wellFormed text nodes numbers ≡ true → length (writtenText text nodes numbers) ≤ room → Writing text nodes numbers room (accepted (length (writtenText text nodes numbers))) (padded (writtenText text nodes numbers) room)
+  no-store : wellFormed text nodes numbers ≡ false → Writing text nodes numbers room (notWritten illFormedStore) (zeros room)
+  too-long : wellFormed text nodes numbers ≡ true → room < length (writtenText text nodes numbers) → Writing text nodes numbers room (notWritten noRoom) (zeros room)
+  fits : wellFormed text nodes numbers ≡ true → length (writtenText text nodes numbers) ≤ room → Writing text nodes numbers room (wrote (length (writtenText text nodes numbers))) (padded (writtenText text nodes numbers) room)
 
 abbrev pub WriteAnswers : Type 0
 WriteAnswers = (text nodes numbers : List ℕ) (room : ℕ) (r : WriteAnswer) (bytes : List ℕ) → Written text nodes numbers room r bytes → Writing text nodes numbers room r bytes

@@ -16,7 +16,8 @@ use Rattle.tree.specs.Tree.{Tree, Shape, rows, texts}
 use Rattle.store.specs.declared.ReadAnswer.{ReadAnswer}
 use Rattle.wkt.specs.Leaves.{Leaves, rootIn}
 use Rattle.store.specs.declared.WriteAnswer.{WriteAnswer}
-use Rattle.to_wkt.specs.Write.{accepted, Written}
+use Rattle.store.specs.Answers.{wrote}
+use Rattle.to_wkt.specs.Write.{Written}
 use Rattle.shape.specs.Store.{allTexts}
 use Rattle.demands.specs.Calls.{Read, usedNodes, usedNumbers}
 
@@ -46,7 +47,7 @@ abbrev pub ReadsEdge : Edge → Type 0
 ReadsEdge (reads N M text g) = (ns ms : List ℕ) (a : ReadAnswer) (ns′ ms′ : List ℕ) → nodeRoom ns ≡ N → numberRoom ms ≡ M → Read text ns ms a ns′ ms′ → Leaves g ns ms a ns′ ms′
 ReadsEdge (writes N M text b) =
     (ns ms : List ℕ) (a : ReadAnswer) (ns′ ms′ : List ℕ) → nodeRoom ns ≡ N → numberRoom ms ≡ M → Read text ns ms a ns′ ms′ →
-    (room : ℕ) (r : WriteAnswer) (out : List ℕ) → length b ≤ room → Written text (usedNodes a ns′) (usedNumbers a ms′) room r out → (r ≡ accepted (length b)) × (out ≡ padded b room)
+    (room : ℕ) (r : WriteAnswer) (out : List ℕ) → length b ≤ room → Written text (usedNodes a ns′) (usedNumbers a ms′) room r out → (r ≡ wrote (length b)) × (out ≡ padded b room)
 
 abbrev pub EveryEdge : Type 0
 EveryEdge = All ReadsEdge edges

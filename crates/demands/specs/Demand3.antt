@@ -15,8 +15,9 @@ use Rattle.store.specs.declared.ReadAnswer.{ReadAnswer}
 use Rattle.shape.specs.Store.{allTexts, wellFormed}
 use Rattle.form.specs.Form.{Form, TreesEqual, TreesAgain, Entries, Back, OneTreeOneWriting}
 use Rattle.store.specs.declared.WriteAnswer.{WriteAnswer}
+use Rattle.store.specs.Answers.{wrote}
 use Rattle.to_wkt.specs.Canonical.{writtenText}
-use Rattle.to_wkt.specs.Write.{accepted, Written}
+use Rattle.to_wkt.specs.Write.{Written}
 use Rattle.demands.specs.Calls.{Read, usedNodes, usedNumbers}
 
 -- ---- canonical text as a form
@@ -32,7 +33,7 @@ canonicalForm = record { bytes = canonicalText; Fits = FitsText; back = λ N M t
 abbrev pub textEntries : Entries WriteAnswer ReadAnswer
 textEntries =
     record {
-      wrote = accepted;
+      wrote = wrote;
       lengthIn = λ r. r .length;
       filled = λ n m. record { number = 0; place = 0; nodes = n; numbers = m };
       nodesIn = λ a. a .nodes;

@@ -12,7 +12,7 @@ use Rattle.scan.specs.Front.{part}
 use Rattle.scan.proofs.Runs.{not-before}
 use Rattle.utf8.specs.Utf8.{firstIll}
 use Rattle.printing.specs.Printing.{Buffer, putIn, putAllIn}
-use Rattle.explain.specs.Lines.{goesOn}
+use Rattle.line_places.specs.Lines.{goesOn}
 use Rattle.explain.specs.declared.characters.Shown.{Shown}
 use Rattle.explain.specs.declared.characters.Shown.the-variants.{Mark, Blank, Tab, WideBlank, Itself}
 use Rattle.explain.specs.Shown.{byteAt, isWide, isControl, wide, control, blankUnder, shownFor, pieceOf, endFrom, pieceAt, piecesFrom, pieces}

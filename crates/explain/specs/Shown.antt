@@ -8,7 +8,7 @@ use Rattle.scan.specs.Bytes.{space}
 use Rattle.scan.specs.Front.{part}
 use Rattle.scan.specs.Runs.{firstNot}
 use Rattle.utf8.specs.Utf8.{firstIll}
-use Rattle.explain.specs.Lines.{goesOn}
+use Rattle.line_places.specs.Lines.{goesOn}
 use Rattle.explain.specs.declared.characters.Shown.{Shown}
 use Rattle.explain.specs.declared.characters.Shown.the-variants.{Mark, Blank, Tab, WideBlank, Itself}
 

@@ -1,5 +1,5 @@
 // A line's characters, as they are shown on a terminal, and the blanks that stand under them.
-use super::lines::next_begin;
+use line_places::next_begin;
 ghost use mathlib.Core.Path.{_≡_};
 ghost use Rattle.printing.specs.Printing.{buffer, putIn, putAllIn};
 ghost use Rattle.explain.specs.Shown.{byteAt, isWide, isControl, blankUnder, shownFor, pieceOf, pieces};

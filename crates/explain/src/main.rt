@@ -7,9 +7,6 @@
 //
 // and of a text that is read the counts of its nodes and numbers are told, as in `accepted 1 2`.
 mod characters;
-mod lines;
-mod message_lines;
-mod messages;
 
 use characters::put_part;
 use console::INPUT_BYTES;
@@ -20,7 +17,7 @@ use console::is_over;
 use console::put_line;
 use console::put_refusal;
 use console::read_input;
-use lines::next_begin;
+use line_places::next_begin;
 use messages::put_message;
 use printing::flush;
 use printing::least;
@@ -67,11 +64,11 @@ fn put_caret(out: &mut [u8], at: usize, before: &[u8]) -> usize {
 
 // The line that `place` stands in, and a caret under it.
 fn put_place(out: &mut [u8], at: usize, text: &[u8], place: usize) -> usize {
-    let shown = lines::shown_place(text, place);
+    let shown = line_places::shown_place(text, place);
     let head = &text[0..shown];
     let tail = &text[shown..];
-    let start = lines::line_start(head);
-    let stop = lines::line_end(tail, 0);
+    let start = line_places::line_start(head);
+    let stop = line_places::line_end(tail, 0);
     let end = put_shown_line(out, at, &head[start..], &tail[0..stop]);
     put_caret(out, end, &head[start..])
 }

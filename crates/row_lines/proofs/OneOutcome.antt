@@ -1,12 +1,14 @@
--- Two outcomes that the contract of `list` allows for one input are one: both slices, and the buffer with its count.
+-- Two outcomes that the contract of `list` or of `put_lines` allows for one input are one: both slices, and the buffer with its count.
 -- Assumes nothing.
 use Prim.Native.Nat.{ℕ}
 use mathlib.Core.Path.{_≡_, sym, ap, _∙_}
 use mathlib.Core.Bool.{false≢true}
 use mathlib.Core.List.{List}
+use Rattle.lists.specs.One.{One}
+use Rattle.lists.proofs.One.{one}
 use Rattle.printing.specs.Printing.{Buffer, putAllIn}
 use Rattle.store.specs.declared.ReadAnswer.{ReadAnswer}
-use Rattle.wkt.specs.Leaves.{leaves-one}
+use Rattle.store.specs.Answers.{leaves-one}
 use Rattle.row_lines.specs.Lines.{listingLines, Listed, long, read}
 
 -- the same answer and the same rows are put in the same way
@@ -22,3 +24,7 @@ list-one (read not-over a l q) (long over n m p) = absurd (false≢true (sym not
 list-one {text} {b = b} (read _ a l p) (read _ a′ l′ p′) =
     let same = leaves-one l l′ in
     (same .1, same .2, p ∙ (same-lines text b (same .0) (same .1) (same .2) ∙ sym p′))
+
+-- of lines that are put
+pub put_lines-one : (a : ReadAnswer) (text ns ms : List ℕ) (b : Buffer) → One (λ left. left ≡ putAllIn (listingLines a text ns ms) b)
+put_lines-one a text ns ms b = one

@@ -90,8 +90,8 @@ fn put_answer(out: &mut [u8], at: usize, answer: ReadAnswer) -> usize
     }
 }
 
-// All lines of what was read; of a refused text there are no rows.
-fn put_lines(
+// All lines of what was read; of what was refused there are no rows.
+pub fn put_lines(
     out: &mut [u8],
     at: usize,
     answer: ReadAnswer,

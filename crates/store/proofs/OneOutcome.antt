@@ -1,12 +1,12 @@
 -- Two answers that a public function's contract allows for one input are one answer, and so are two slices that are left.
 -- Assumes nothing.
 use Prim.Native.Nat.{ℕ}
-use mathlib.Core.Path.{_≡_}
+use mathlib.Core.Path.{_≡_, sym, _∙_}
 use mathlib.Core.List.{List}
 use Rattle.lists.specs.One.{One}
 use Rattle.lists.proofs.One.{one}
 use Rattle.store.specs.declared.ReadAnswer.{ReadAnswer}
-use Rattle.store.specs.Answers.{refused, Leaves, leaves-one}
+use Rattle.store.specs.Answers.{Accepts, refused, Leaves, leaves-one}
 use Rattle.store.specs.Rows.{nodeWidth, numberWidth, nodeRoom, numberRoom, placesOf, openRow, closeRow, putRow, putSpan, cleared, kindAt, dimensionAt, partsAt, nodeColumn, spanStartAt, spanLengthAt}
 
 module _ (slice : List ℕ) where
@@ -59,3 +59,7 @@ module _ (slice : List ℕ) (row : ℕ) where
 -- two outcomes of `refuse`: the answer and both slices
 pub refuse-one : {why at : ℕ} {ns ms ns′ ns″ ms′ ms″ : List ℕ} {a a′ : ReadAnswer} → Leaves (refused why at) ns ms a ns′ ms′ → Leaves (refused why at) ns ms a′ ns″ ms″ → (a ≡ a′) × (ns′ ≡ ns″) × (ms′ ≡ ms″)
 refuse-one x y = leaves-one x y
+
+-- and of `accept`
+pub accept-one : {rows used : ℕ} {ns ms ns′ ns″ ms′ ms″ : List ℕ} {a a′ : ReadAnswer} → Accepts ns ms rows used a ns′ ms′ → Accepts ns ms rows used a′ ns″ ms″ → (a ≡ a′) × (ns′ ≡ ns″) × (ms′ ≡ ms″)
+accept-one x y = (x .answer ∙ sym (y .answer), x .nodes ∙ sym (y .nodes), x .numbers ∙ sym (y .numbers))

@@ -8,7 +8,7 @@ use lib.ListN.{length}
 use Rattle.refusals.specs.Refusals.{noRoom}
 use Rattle.store.specs.declared.ReadAnswer.{ReadAnswer}
 use Rattle.store.specs.declared.WriteAnswer.{WriteAnswer}
-use Rattle.store.specs.Rows.{Row, Span, flatRows, flatSpans, zeros, padded}
+use Rattle.store.specs.Rows.{Row, Span, nodeWidth, numberWidth, placesOf, flatRows, flatSpans, zeros, padded, cleared}
 
 -- ---- readers
 -- what reading into a store comes to: node rows and number rows, or a refusal's number and place
@@ -36,6 +36,12 @@ pub record Leaves (o : Outcome) (ns ms : List ℕ) (a : ReadAnswer) (ns′ ms′
   pub answer : a ≡ readAnswer o
   pub nodes : ns′ ≡ padded (usedRows o) (length ns)
   pub numbers : ms′ ≡ padded (usedSpans o) (length ms)
+
+-- the first rows of both slices stay, and zeros follow them
+pub record Accepts (ns ms : List ℕ) (rows used : ℕ) (a : ReadAnswer) (ns′ ms′ : List ℕ) : Type 0 where
+  pub answer : a ≡ record { number = 0; place = 0; nodes = rows; numbers = used }
+  pub nodes : ns′ ≡ cleared ns (placesOf nodeWidth ns rows)
+  pub numbers : ms′ ≡ cleared ms (placesOf numberWidth ms used)
 
 -- two outcomes that such a contract allows coincide
 pub leaves-one : {o : Outcome} {ns ms : List ℕ} {a a′ : ReadAnswer} {ns′ ns″ ms′ ms″ : List ℕ} → Leaves o ns ms a ns′ ms′ → Leaves o ns ms a′ ns″ ms″ → (a ≡ a′) × (ns′ ≡ ns″) × (ms′ ≡ ms″)

@@ -1,7 +1,7 @@
 // Rows in lent slices: nodes and numbers, as document 01's "The store" lays them out.
 ghost use mathlib.Core.Path.{_≡_};
 ghost use Rattle.store.specs.Rows.{nodeWidth, numberWidth, nodeRoom, numberRoom, placesOf, openRow, closeRow, putRow, putSpan, cleared, kindAt, dimensionAt, partsAt, nodeColumn, spanStartAt, spanLengthAt, cell};
-ghost use Rattle.store.specs.Answers.{refused, Leaves};
+ghost use Rattle.store.specs.Answers.{Accepts, refused, Leaves};
 ghost use Prim.Native.Nat.{_≤_, _<_};
 ghost use lib.ListN.{length};
 
@@ -181,6 +181,20 @@ pub fn length_at(numbers: &[u32], row: usize) -> u32
     ensures { λ r. ⌜ r ≡ spanLengthAt (now (numbers .entry)) row ⌝ }
 {
     cell_at(numbers, NUMBER_WIDTH, row, LENGTH)
+}
+
+// A reader accepts: so many rows of both slices are used, and what lies after them is zeroed.
+pub fn accept(nodes: &mut [u32], numbers: &mut [u32], rows: usize, used: usize) -> ReadAnswer
+    ensures { λ r. ⌜ Accepts (now (nodes .entry)) (now (numbers .entry)) rows used r (now (nodes .exit)) (now (numbers .exit)) ⌝ }
+{
+    clear(nodes, node_places(nodes, rows));
+    clear(numbers, number_places(numbers, used));
+    ReadAnswer {
+        number: 0,
+        place: 0,
+        nodes: rows,
+        numbers: used,
+    }
 }
 
 // A reader refuses: both slices are zeroed.

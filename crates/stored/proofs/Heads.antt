@@ -16,12 +16,8 @@ use Rattle.fields.proofs.Fields.{has-room, sized-field}
 use Rattle.stored.specs.declared.Version.{Version}
 use Rattle.stored.specs.declared.reading.Counts.{Counts}
 use Rattle.stored.specs.declared.reading.Head.the-variants.{Told, Refused}
-use Rattle.stored.specs.Form.{version1, Known, headTag, headSize, firstNode}
+use Rattle.stored.specs.Form.{Known, headTag, headSize, firstNode}
 use Rattle.stored.specs.Reading.{versionAt, countsAt, isOtherVersion, nodesTold, numbersTold, countsRead, headIn, Headed}
-
--- version 1 is what a version may be
-pub known-version1 : Known version1
-known-version1 = record { named = omega arith; narrow = omega arith; counts = refl; limited = omega arith }
 
 -- a head of the right length lies in the bytes
 pub head-room : (w : ℕ) (bytes : List ℕ) → isSized headTag (headSize w) bytes 0 ≡ true → firstNode w ≤ length bytes

@@ -1,3 +1,6 @@
 pub mod Form
 pub mod Reading
+pub mod Faults
+pub mod Writing
+pub mod WritingExamples
 pub mod Examples

@@ -67,12 +67,10 @@ fn look_at_head(bytes: &[u8], v: Version) -> Head
     }
     let middle = COUNTS_AT + v.width;
     let end = middle + v.width;
-    Head::Told(
-        Counts {
-            nodes: fields::count_in(&bytes[COUNTS_AT..middle]) as usize,
-            numbers: fields::count_in(&bytes[middle..end]) as usize,
-        },
-    )
+    Head::Told(Counts {
+        nodes: fields::count_in(&bytes[COUNTS_AT..middle]) as usize,
+        numbers: fields::count_in(&bytes[middle..end]) as usize,
+    })
 }
 
 // The `count` node fields from `first` on: whether they are one tree that needs `numbers` numbers. Fields after the one that makes it none are
@@ -255,7 +253,13 @@ fn read_numbers(
     }
 }
 
-fn read_nodes(bytes: &[u8], v: Version, c: Counts, nodes: &mut [u32], numbers: &mut [u32]) -> ReadAnswer
+fn read_nodes(
+    bytes: &[u8],
+    v: Version,
+    c: Counts,
+    nodes: &mut [u32],
+    numbers: &mut [u32],
+) -> ReadAnswer
     requires { ⌜ Headed (v .width) (now bytes) c ⌝ }
     ensures { λ a. ⌜ Leaves (headedOf (v .width) (nodeRoom (now (nodes .entry))) (numberRoom (now (numbers .entry))) (now (bytes .entry)) c) (now (nodes .entry)) (now (numbers .entry)) a (now (nodes .exit)) (now (numbers .exit)) ⌝ }
 {
@@ -267,7 +271,12 @@ fn read_nodes(bytes: &[u8], v: Version, c: Counts, nodes: &mut [u32], numbers: &
     }
 }
 
-pub(crate) fn read_version(bytes: &[u8], v: Version, nodes: &mut [u32], numbers: &mut [u32]) -> ReadAnswer
+pub(crate) fn read_version(
+    bytes: &[u8],
+    v: Version,
+    nodes: &mut [u32],
+    numbers: &mut [u32],
+) -> ReadAnswer
     requires { ⌜ Known v ⌝ }
     ensures { λ a. ⌜ Leaves (readingOf v (nodeRoom (now (nodes .entry))) (numberRoom (now (numbers .entry))) (now (bytes .entry))) (now (nodes .entry)) (now (numbers .entry)) a (now (nodes .exit)) (now (numbers .exit)) ⌝ }
 {

@@ -11,9 +11,16 @@ use refusals::ILL_FORMED_STORE;
 use refusals::NO_ROOM;
 use store::WriteAnswer;
 ghost use mathlib.Core.Path.{_≡_};
+ghost use mathlib.Core.List.{_++_, flatMap};
+ghost use Prim.Native.Nat.{_≤_, _<_, _^_};
 ghost use lib.ListN.{length};
-ghost use Rattle.store.specs.Answers.{Writes};
-ghost use Rattle.stored.specs.Form.{Known, storedOf};
+ghost use Rattle.lists.specs.Lists.{All};
+ghost use Rattle.store.specs.Rows.{nodeRoom};
+ghost use Rattle.store.specs.Answers.{bytes, Writes};
+ghost use Rattle.pen.specs.Pen.{Emits};
+ghost use Rattle.shape.specs.Store.{allRows, allTexts};
+ghost use Rattle.stored.specs.Form.{Known, headField, nodeField, numberField, storedRows, storedOf};
+ghost use Rattle.stored.specs.Writing.{lengthsIn, numbersMeasure, measureOf, SmallRow, HasRoom};
 
 // The most bytes that a head's content can have, and a node's: with counts of four bytes.
 const HEAD_CONTENT: usize = 9;
@@ -22,11 +29,13 @@ const NODE_CONTENT: usize = 6;
 
 // How many bytes the number fields have; one more than the limit where a text doesn't fit a field, or where all of them don't fit the limit.
 fn measure_numbers(numbers: &[u32], limit: usize) -> usize
+    requires { ⌜ limit < 2 ^ 32 ⌝ }
+    ensures { λ r. ⌜ r ≡ numbersMeasure limit (lengthsIn (now (numbers .entry))) ⌝ }
 {
-    let count = store::number_room(numbers);
+    let number_count = store::number_room(numbers);
     let mut bytes = 0;
     let mut i = 0;
-    while i < count {
+    while i < number_count {
         let length = store::length_at(numbers, i) as usize;
         if LONGEST < length {
             return limit + 1;
@@ -43,6 +52,8 @@ fn measure_numbers(numbers: &[u32], limit: usize) -> usize
 // How many bytes the fields of a tree have; more than the limit where something doesn't fit. Parts always fit where the counts do: a node has no more
 // children than there are nodes, and no more coordinates than there are numbers.
 fn measure(nodes: &[u32], numbers: &[u32], v: Version) -> usize
+    requires { ⌜ Known v ⌝ }
+    ensures { λ r. ⌜ r ≡ measureOf v (nodeRoom (now (nodes .entry))) (lengthsIn (now (numbers .entry))) ⌝ }
 {
     let node_count = store::node_room(nodes);
     let number_count = store::number_room(numbers);
@@ -55,6 +66,8 @@ fn measure(nodes: &[u32], numbers: &[u32], v: Version) -> usize
 }
 
 fn put_head(out: &mut [u8], p: Pen, v: Version, nodes: usize, numbers: usize) -> Pen
+    requires { ⌜ Known v × (nodes ≤ v .largest) × (numbers ≤ v .largest) ⌝ }
+    ensures { λ r. ⌜ Emits (λ rest. headField v nodes numbers ++ rest) p (now (out .entry)) r (now (out .exit)) ⌝ }
 {
     let mut content = [0u8; HEAD_CONTENT];
     let middle = 1 + v.width;
@@ -66,6 +79,8 @@ fn put_head(out: &mut [u8], p: Pen, v: Version, nodes: usize, numbers: usize) ->
 }
 
 fn put_nodes(out: &mut [u8], p: Pen, width: usize, nodes: &[u32]) -> Pen
+    requires { ⌜ (width ≤ 4) × All SmallRow (allRows (now nodes)) ⌝ }
+    ensures { λ r. ⌜ Emits (λ rest. flatMap (nodeField width) (allRows (now (nodes .entry))) ++ rest) p (now (out .entry)) r (now (out .exit)) ⌝ }
 {
     let count = store::node_room(nodes);
     let end = 2 + width;
@@ -83,6 +98,7 @@ fn put_nodes(out: &mut [u8], p: Pen, width: usize, nodes: &[u32]) -> Pen
 }
 
 fn put_numbers(out: &mut [u8], p: Pen, text: &[u8], numbers: &[u32]) -> Pen
+    ensures { λ r. ⌜ Emits (λ rest. flatMap numberField (allTexts (now (text .entry)) (now (numbers .entry))) ++ rest) p (now (out .entry)) r (now (out .exit)) ⌝ }
 {
     let count = store::number_room(numbers);
     let mut q = p;
@@ -96,6 +112,8 @@ fn put_numbers(out: &mut [u8], p: Pen, text: &[u8], numbers: &[u32]) -> Pen
 
 // Puts the fields of a tree for which there is room.
 fn put_tree(text: &[u8], nodes: &[u32], numbers: &[u32], v: Version, out: &mut [u8]) -> WriteAnswer
+    requires { ⌜ HasRoom v (now text) (now nodes) (now numbers) (length (now out)) ⌝ }
+    ensures { λ r. ⌜ Writes (bytes (storedRows v (allRows (now (nodes .entry))) (allTexts (now (text .entry)) (now (numbers .entry))))) (length (now (out .entry))) r (now (out .exit)) ⌝ }
 {
     let p = put_head(
         out,

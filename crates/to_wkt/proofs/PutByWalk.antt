@@ -1,30 +1,29 @@
 -- What stands in the room when all that a walk meets is put, one thing after the other; and the answers by it.
 -- Assumes nothing.
-use mathlib.Core.Path.{_≡_, refl, ap, sym, subst, _∙_}
-use mathlib.Core.Bool.{Bool, true, false, false≢true}
+use mathlib.Core.Path.{_≡_, refl, sym, _∙_}
+use mathlib.Core.Bool.{true, false, false≢true}
 use mathlib.Core.Option.{Option, none, some}
-use mathlib.Core.List.{List, [], _∷_, _++_, append-nil}
-use Prim.Native.Nat.{ℕ, _-_, _<_}
+use mathlib.Core.List.{List, [], _∷_, _++_}
+use Prim.Native.Nat.{ℕ}
 use native.Mathlib.Omega.{arith}
-use borrow.Author.Tests.{le-leb, lt-leb}
-use lib.ListN.{length, take}
-use lib.Seq.{length-take-le}
+use lib.ListN.{length}
 use Rattle.refusals.specs.Refusals.{illFormedStore, noRoom}
 use Rattle.tree.specs.Tree.{Tree}
 use Rattle.limits.specs.Limits.{depthLimit}
 use Rattle.store.specs.Rows.{numberRoom, cleared}
-use Rattle.store.proofs.Zeros.{cleared-all, cleared-padded}
 use Rattle.shape.specs.declared.Met.{Met}
 use Rattle.shape.specs.Store.{treeOf, mapO, walkRoot, walkOf}
 use Rattle.shape.specs.Walk.{areRows, wholeWalk}
 use Rattle.shape.proofs.Checks.{the-walk}
 use Rattle.canonical_text.specs.Canonical.{canonicalText}
 use Rattle.pen.specs.declared.Pen.{Pen}
-use Rattle.pen.specs.Pen.{pen, HasPut, ToPut, Emits}
+use Rattle.pen.specs.Pen.{pen, ToPut, Emits}
+use Rattle.pen.proofs.Written.{writes-full, writes-all}
 use Rattle.to_wkt.specs.declared.PutAnswer.{PutAnswer}
 use Rattle.store.specs.declared.WriteAnswer.{WriteAnswer}
+use Rattle.store.specs.Answers.{refusal, wrote, Writes}
 use Rattle.to_wkt.specs.Canonical.{storeText, putMet, putAll}
-use Rattle.to_wkt.specs.Write.{accepted, refused, Written}
+use Rattle.to_wkt.specs.Write.{Written}
 use Rattle.to_wkt.specs.Put.{PutRows}
 use Rattle.to_wkt.proofs.Trees.{put-both, put-is-text}
 
@@ -67,11 +66,8 @@ module _ (text nodes numbers : List ℕ) where
       go none e = refl
       go (some t) e = let z : _≡_ {A = ℕ} 0 1 = cc in absurd (omega arith)
 
-  pub said-ill : (out out′ : List ℕ) {room : ℕ} {r : WriteAnswer} → length out ≡ room → walkOf text nodes numbers ≡ none → r ≡ refused illFormedStore → out′ ≡ cleared out 0 → Written text nodes numbers room r out′
-  said-ill out out′ {room} same w a e =
-      let v = no-text w in
-      let z : length out - 0 ≡ room = omega arith in
-      record { answer = rw v a; bytes = rw v (e ∙ cleared-all out ∙ rw z) }
+  pub said-ill : {n room : ℕ} {r : WriteAnswer} {left : List ℕ} → n ≡ room → walkOf text nodes numbers ≡ none → Writes (refusal illFormedStore) n r left → Written text nodes numbers room r left
+  said-ill same w h = rw (no-text w, ← same) h
 
   -- by what the loop left
   module _ (rows : areRows text nodes numbers ≡ true) (q : PutAnswer) (out : List ℕ) (h : PutRows text numbers (wholeWalk nodes (numberRoom numbers)) q out) where
@@ -92,18 +88,9 @@ module _ (text nodes numbers : List ℕ) where
         go none e h = absurd (false≢true (sym good ∙ h))
         go (some ms) e h = record { bytes = putAll text numbers ms []; is = put-is-text text numbers nodes ms e; left = h .1 }
 
-module _ {text nodes numbers : List ℕ} {p : Pen} {out : List ℕ} (s : Stands text nodes numbers p out) (out′ : List ℕ) {room : ℕ} (same : length out ≡ room) where
-  pub said-full : {r : WriteAnswer} → p .full ≡ true → r ≡ refused noRoom → out′ ≡ cleared out 0 → Written text nodes numbers room r out′
-  said-full f a e =
-      let l : length out < length (s .bytes) = subst (λ (b : Bool). HasPut b (s .bytes) [] (p .at) out) f (s .left .held) in
-      let t = lt-leb (length (s .bytes)) room (omega arith) in
-      let z : length out - 0 ≡ room = omega arith in
-      record { answer = rw (s .is, t) a; bytes = rw (s .is, t) (e ∙ cleared-all out ∙ rw z) }
+module _ {text nodes numbers : List ℕ} {p : Pen} {out left : List ℕ} (s : Stands text nodes numbers p out) {room : ℕ} (same : length out ≡ room) where
+  pub said-full : {r : WriteAnswer} → p .full ≡ true → Writes (refusal noRoom) (length out) r left → Written text nodes numbers room r left
+  said-full f h = rw (s .is) (writes-full (s .left) same f h)
 
-  pub said-all : p .full ≡ false → out′ ≡ cleared out (p .at) → Written text nodes numbers room (accepted (p .at)) out′
-  said-all f e =
-      let l : take (p .at) out ++ [] ≡ s .bytes = subst (λ (b : Bool). HasPut b (s .bytes) [] (p .at) out) f (s .left .held) in
-      let g : s .bytes ≡ take (p .at) out = sym l ∙ append-nil (take (p .at) out) in
-      let n : length (s .bytes) ≡ p .at = ap length g ∙ length-take-le (p .at) out (s .left .within) in
-      let t = le-leb (length (s .bytes)) room (omega (arith, s .left .within)) in
-      record { answer = rw (s .is, t, n); bytes = rw (s .is, t) (e ∙ cleared-padded out (s .bytes) (p .at) g (s .left .within) ∙ rw same) }
+  pub said-all : p .full ≡ false → left ≡ cleared out (p .at) → Written text nodes numbers room (wrote (p .at)) left
+  said-all f e = rw (s .is) (writes-all (s .left) same f e)

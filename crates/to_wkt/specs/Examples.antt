@@ -9,6 +9,7 @@ use Rattle.scan.specs.Front.{begins, afterOne, afterAll, isNil}
 use Rattle.words.specs.Words.{sameWord}
 use Rattle.lists.specs.Lists.{every}
 use Rattle.number.specs.Lexeme.{isNamed, isDigits, isExponent, isDecimal, isUnsigned, isLexeme}
+use Rattle.store.specs.Answers.{wrote, notWritten, writeAnswer, roomAfter}
 use Rattle.store.specs.Rows.{Row, nodeOver, cell, firsts, rowsIn, spansIn, flatRows}
 use Rattle.tree.specs.Tree.{rowsWith}
 use Rattle.tree.specs.TreeIn.{onFront, asA, times, findText, findRow, exactlyOne, atMostOne, findParts, findNode, whole}
@@ -18,7 +19,7 @@ use Rattle.shape.specs.Numbers.{textAt, areNumbers}
 use Rattle.shape.specs.Store.{mapO, areWhole, treeOf, walkOf}
 use Rattle.shape.specs.Visits.{walkEach, walkParts}
 use Rattle.to_wkt.specs.Canonical.{storeText, putNumber, putSpaced, putCoordinate, putListed, putCoordinates, putName, putComma, putHead, putBody, putNode, putMet, putAll}
-use Rattle.to_wkt.specs.Write.{accepted, refused, answerOf, roomAfter}
+use Rattle.to_wkt.specs.Write.{outputOf}
 
 -- `POINT(++4 +-4)` as it is read: its spans are 7,2 and 11,2
 read : List ℕ
@@ -111,8 +112,13 @@ unfolding all
 ill = refl
 
 -- the answer and the room: ill formed; a text of three bytes in a room of four, of three and of two
-answers : (answerOf none 2 ≡ refused 22) × (answerOf (some (bytes "abc")) 4 ≡ accepted 3) × (answerOf (some (bytes "abc")) 3 ≡ accepted 3) × (answerOf (some (bytes "abc")) 2 ≡ refused 23)
+abc : Option (List ℕ)
+abc = some (bytes "abc")
+
+answers : (writeAnswer (outputOf none) 2 ≡ notWritten 22) × (writeAnswer (outputOf abc) 4 ≡ wrote 3) × (writeAnswer (outputOf abc) 3 ≡ wrote 3) × (writeAnswer (outputOf abc) 2 ≡ notWritten 23)
+unfolding abc
 answers = (refl, refl, refl, refl)
 
-rooms : (roomAfter none 2 ≡ 0 ∷ 0 ∷ []) × (roomAfter (some (bytes "abc")) 4 ≡ 97 ∷ 98 ∷ 99 ∷ 0 ∷ []) × (roomAfter (some (bytes "abc")) 3 ≡ bytes "abc") × (roomAfter (some (bytes "abc")) 2 ≡ 0 ∷ 0 ∷ [])
+rooms : (roomAfter (outputOf none) 2 ≡ 0 ∷ 0 ∷ []) × (roomAfter (outputOf abc) 4 ≡ 97 ∷ 98 ∷ 99 ∷ 0 ∷ []) × (roomAfter (outputOf abc) 3 ≡ bytes "abc") × (roomAfter (outputOf abc) 2 ≡ 0 ∷ 0 ∷ [])
+unfolding abc
 rooms = (refl, refl, refl, refl)

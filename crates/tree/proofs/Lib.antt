@@ -1,2 +1,4 @@
 pub mod TreeIn
 pub mod Closed
+pub mod Parts
+pub mod KnownRows

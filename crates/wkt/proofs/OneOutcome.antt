@@ -6,7 +6,8 @@ use mathlib.Core.List.{List}
 use Rattle.store.specs.Rows.{nodeRoom, numberRoom}
 use Rattle.grammar.specs.Reading.{reading}
 use Rattle.store.specs.declared.ReadAnswer.{ReadAnswer}
-use Rattle.wkt.specs.Leaves.{Leaves, leaves-one}
+use Rattle.store.specs.Answers.{leaves-one}
+use Rattle.wkt.specs.Leaves.{Leaves}
 
 pub read-one : (text ns ms : List ℕ) {a a′ : ReadAnswer} {ns′ ns″ ms′ ms″ : List ℕ} → Leaves (reading (nodeRoom ns) (numberRoom ms) text) ns ms a ns′ ms′ → Leaves (reading (nodeRoom ns) (numberRoom ms) text) ns ms a′ ns″ ms″ → (a ≡ a′) × (ns′ ≡ ns″) × (ms′ ≡ ms″)
 read-one text ns ms x y = leaves-one x y

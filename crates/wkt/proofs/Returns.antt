@@ -1,6 +1,6 @@
 -- `read`, return by return.
 -- Assumes nothing.
-use mathlib.Core.Path.{_≡_, refl, ap, _∙_}
+use mathlib.Core.Path.{_≡_, refl, ap, sym, _∙_}
 use mathlib.Core.Bool.{true, false}
 use mathlib.Core.List.{List}
 use Prim.Native.Nat.{ℕ, _+_, _*_, _≤_, _<_, _^_}
@@ -15,6 +15,8 @@ use Rattle.tokenizer.specs.declared.Refusal.{Refusal}
 use Rattle.tokenizer.specs.Stream.{stream}
 use Rattle.tokenizer.proofs.Bridge.{toks-lex}
 use Rattle.store.specs.Rows.{nodeWidth, numberWidth, nodeRoom, numberRoom, firsts, rowsIn, spansIn, cleared}
+use Rattle.store.specs.Answers.{Accepts}
+use Rattle.store.proofs.Cells.{places-some}
 use Rattle.store.proofs.Rows.{rows-length, rows-cleared, spans-length, spans-cleared}
 use Rattle.grammar.specs.Asks.{answerIn}
 use Rattle.grammar.specs.Grammar as spec
@@ -30,14 +32,14 @@ use Rattle.store.specs.declared.ReadAnswer.{ReadAnswer}
 
 -- what the slices are left with
 module _ {ns ms : List ℕ} {got : Answer} {ns′ ms′ : List ℕ} where
-  pub finish-done : {end : Spot} → got ≡ Read end → Within (nodeRoom ns) (numberRoom ms) got → ns′ ≡ cleared ns (end .nodes * nodeWidth) → ms′ ≡ cleared ms (end .numbers * numberWidth) → Finishes got ns ms (record { number = 0; place = 0; nodes = end .nodes; numbers = end .numbers }) ns′ ms′
-  finish-done {end} e v n m =
+  pub finish-done : {end : Spot} {a : ReadAnswer} → got ≡ Read end → Within (nodeRoom ns) (numberRoom ms) got → Accepts ns ms (end .nodes) (end .numbers) a ns′ ms′ → Finishes got ns ms a ns′ ms′
+  finish-done {end} e v done =
       let w = rw e at v in
       record {
         met = λ text. rw e (record {
-          answer = rw (rows-length, spans-length);
-          nodes = n ∙ rows-cleared ns (end .nodes) (w .0);
-          numbers = m ∙ spans-cleared text ms (end .numbers) (w .1);
+          answer = done .answer ∙ rw (rows-length, spans-length);
+          nodes = done .nodes ∙ ap (cleared ns) (sym (places-some nodeWidth ns (end .nodes) (w .0) .0)) ∙ rows-cleared ns (end .nodes) (w .0);
+          numbers = done .numbers ∙ ap (cleared ms) (sym (places-some numberWidth ms (end .numbers) (w .1) .0)) ∙ spans-cleared text ms (end .numbers) (w .1);
         });
       }
 

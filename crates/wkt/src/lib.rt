@@ -22,8 +22,6 @@ use limits::DEPTH_LIMIT;
 use limits::TEXT_LIMIT;
 use refusals::ILL_FORMED_UTF8;
 use refusals::TEXT_TOO_LONG;
-use store::NODE_WIDTH;
-use store::NUMBER_WIDTH;
 use store::ReadAnswer;
 ghost use mathlib.Core.Path.{_≡_};
 ghost use Prim.Native.Nat.{_+_, _<_, _^_};
@@ -153,18 +151,7 @@ fn finish(nodes: &mut [u32], numbers: &mut [u32], got: Answer) -> ReadAnswer
     ensures { λ a. ⌜ Finishes got (now (nodes .entry)) (now (numbers .entry)) a (now (nodes .exit)) (now (numbers .exit)) ⌝ }
 {
     match got {
-        Answer::Read(end) => {
-            let rows = end.nodes;
-            let used = end.numbers;
-            store::clear(nodes, rows * NODE_WIDTH);
-            store::clear(numbers, used * NUMBER_WIDTH);
-            ReadAnswer {
-                number: 0,
-                place: 0,
-                nodes: rows,
-                numbers: used,
-            }
-        }
+        Answer::Read(end) => store::accept(nodes, numbers, end.nodes, end.numbers),
         Answer::Refused(r, _) => store::refuse(nodes, numbers, r.number, r.place),
         Answer::Stopped(r, _) => store::refuse(nodes, numbers, r.number, r.place),
     }

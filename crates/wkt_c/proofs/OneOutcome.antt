@@ -3,6 +3,15 @@
 use Prim.Native.Nat.{ℕ}
 use mathlib.Core.Path.{_≡_, sym, _∙_}
 use mathlib.Core.List.{List}
+use lib.ListN.{length}
+use Rattle.store.specs.Rows.{nodeRoom, numberRoom}
+use Rattle.store.specs.Answers.{Outcome, Output}
+use Rattle.grammar.specs.Reading.{reading}
+use Rattle.wkt.specs.Leaves.{outcomeOf}
+use Rattle.to_wkt.specs.Canonical.{storeText}
+use Rattle.to_wkt.specs.Write.{outputOf}
+use Rattle.stored.specs.Form.{version1, storedOf}
+use Rattle.stored.specs.Reading.{readingOf}
 use Rattle.lists.specs.One.{One}
 use Rattle.lists.proofs.One.{one}
 use Rattle.rooms.specs.Rooms.{enoughRows}
@@ -14,12 +23,26 @@ pub doorhollow_enough_rows-one : (bytes : ℕ) → One (λ r. r ≡ enoughRows b
 doorhollow_enough_rows-one bytes = one
 
 -- both slices and the answer
-pub doorhollow_read-one : {text ns ms ns′ ns″ ms′ ms″ answer answer′ : List ℕ} → ReadsInto text ns ms ns′ ms′ answer → ReadsInto text ns ms ns″ ms″ answer′ → (ns′ ≡ ns″) × (ms′ ≡ ms″) × (answer ≡ answer′)
-doorhollow_read-one x y = (x .rows .nodes ∙ sym (y .rows .nodes), x .rows .numbers ∙ sym (y .rows .numbers), x .places ∙ sym (y .places))
+pub reads-one : {o : Outcome} {ns ms ns′ ns″ ms′ ms″ answer answer′ : List ℕ} → ReadsInto o ns ms ns′ ms′ answer → ReadsInto o ns ms ns″ ms″ answer′ → (ns′ ≡ ns″) × (ms′ ≡ ms″) × (answer ≡ answer′)
+reads-one x y = (x .rows .nodes ∙ sym (y .rows .nodes), x .rows .numbers ∙ sym (y .rows .numbers), x .places ∙ sym (y .places))
 
 -- the room and the answer
-pub doorhollow_write-one : {text nodes numbers out out′ out″ answer answer′ : List ℕ} → WritesInto text nodes numbers out out′ answer → WritesInto text nodes numbers out out″ answer′ → (out′ ≡ out″) × (answer ≡ answer′)
-doorhollow_write-one x y = (x .bytes .bytes ∙ sym (y .bytes .bytes), x .places ∙ sym (y .places))
+pub writes-one : {o : Output} {room : ℕ} {out′ out″ answer answer′ : List ℕ} → WritesInto o room out′ answer → WritesInto o room out″ answer′ → (out′ ≡ out″) × (answer ≡ answer′)
+writes-one x y = (x .bytes .bytes ∙ sym (y .bytes .bytes), x .places ∙ sym (y .places))
+
+module _ {text ns ms ns′ ns″ ms′ ms″ answer answer′ : List ℕ} where
+  pub doorhollow_read-one : ReadsInto (outcomeOf (reading (nodeRoom ns) (numberRoom ms) text)) ns ms ns′ ms′ answer → ReadsInto (outcomeOf (reading (nodeRoom ns) (numberRoom ms) text)) ns ms ns″ ms″ answer′ → (ns′ ≡ ns″) × (ms′ ≡ ms″) × (answer ≡ answer′)
+  doorhollow_read-one = reads-one
+
+  pub doorhollow_read_stored_1-one : ReadsInto (readingOf version1 (nodeRoom ns) (numberRoom ms) text) ns ms ns′ ms′ answer → ReadsInto (readingOf version1 (nodeRoom ns) (numberRoom ms) text) ns ms ns″ ms″ answer′ → (ns′ ≡ ns″) × (ms′ ≡ ms″) × (answer ≡ answer′)
+  doorhollow_read_stored_1-one = reads-one
+
+module _ {text nodes numbers out out′ out″ answer answer′ : List ℕ} where
+  pub doorhollow_write-one : WritesInto (outputOf (storeText text nodes numbers)) (length out) out′ answer → WritesInto (outputOf (storeText text nodes numbers)) (length out) out″ answer′ → (out′ ≡ out″) × (answer ≡ answer′)
+  doorhollow_write-one = writes-one
+
+  pub doorhollow_write_stored_1-one : WritesInto (storedOf version1 text nodes numbers) (length out) out′ answer → WritesInto (storedOf version1 text nodes numbers) (length out) out″ answer′ → (out′ ≡ out″) × (answer ≡ answer′)
+  doorhollow_write_stored_1-one = writes-one
 
 pub doorhollow_strict-one : (text nodes numbers : List ℕ) → One (λ answer. answer ≡ strictPlaces (strictOf text nodes numbers))
 doorhollow_strict-one text nodes numbers = one

@@ -1,13 +1,40 @@
 // The entries for C, and for every language that calls as C does. A slice goes as a pointer and a length, and an
 // answer goes into four places that the caller lends, so that no struct is passed.
 ghost use mathlib.Core.Path.{_≡_};
-ghost use Rattle.wkt_c.specs.Answers.{ReadsInto, WritesInto, strictPlaces, inferPlaces};
+ghost use lib.ListN.{length};
+ghost use Rattle.store.specs.Rows.{nodeRoom, numberRoom};
+ghost use Rattle.grammar.specs.Reading.{reading};
+ghost use Rattle.wkt.specs.Leaves.{outcomeOf};
+ghost use Rattle.to_wkt.specs.Canonical.{storeText};
+ghost use Rattle.to_wkt.specs.Write.{outputOf};
+ghost use Rattle.stored.specs.Form.{version1, storedOf};
+ghost use Rattle.stored.specs.Reading.{readingOf};
+ghost use Rattle.wkt_c.specs.Answers.{ReadsInto, WritesInto, readPlaces, writePlaces, strictPlaces, inferPlaces};
+use store::ReadAnswer;
+use store::WriteAnswer;
 ghost use Rattle.rooms.specs.Rooms.{enoughRows};
 ghost use Rattle.strict.specs.Strict.{strictOf};
 ghost use Rattle.infer_type.specs.Infer.{inferType};
 
 // How many places an answer has. Those that an entry has no use for are zero.
 const ANSWER_PLACES: usize = 4;
+
+fn read_places(a: ReadAnswer) -> [u64; ANSWER_PLACES]
+    ensures { λ r. ⌜ r ≡ readPlaces a ⌝ }
+{
+    [
+        a.number as u64,
+        a.place as u64,
+        a.nodes as u64,
+        a.numbers as u64,
+    ]
+}
+
+fn write_places(a: WriteAnswer) -> [u64; ANSWER_PLACES]
+    ensures { λ r. ⌜ r ≡ writePlaces a ⌝ }
+{
+    [a.number as u64, a.place as u64, a.length as u64, 0]
+}
 
 // `rooms::enough_rows`: lent so many node rows and so many number rows, `doorhollow_read` answers neither 3 nor 4.
 #[no_mangle]
@@ -25,15 +52,10 @@ pub extern "C" fn doorhollow_read(
     numbers: &mut [u32],
     answer: &mut [u64; ANSWER_PLACES],
 )
-    ensures { λ _. ⌜ ReadsInto (now (text .entry)) (now (nodes .entry)) (now (numbers .entry)) (now (nodes .exit)) (now (numbers .exit)) (now (answer .exit)) ⌝ }
+    ensures { λ _. ⌜ ReadsInto (outcomeOf (reading (nodeRoom (now (nodes .entry))) (numberRoom (now (numbers .entry))) (now (text .entry)))) (now (nodes .entry)) (now (numbers .entry)) (now (nodes .exit)) (now (numbers .exit)) (now (answer .exit)) ⌝ }
 {
     let a = wkt::read(text, nodes, numbers);
-    *answer = [
-        a.number as u64,
-        a.place as u64,
-        a.nodes as u64,
-        a.numbers as u64,
-    ];
+    *answer = read_places(a);
 }
 
 // `to_wkt::write`. The answer is number, place, length.
@@ -45,10 +67,39 @@ pub extern "C" fn doorhollow_write(
     out: &mut [u8],
     answer: &mut [u64; ANSWER_PLACES],
 )
-    ensures { λ _. ⌜ WritesInto (now (text .entry)) (now (nodes .entry)) (now (numbers .entry)) (now (out .entry)) (now (out .exit)) (now (answer .exit)) ⌝ }
+    ensures { λ _. ⌜ WritesInto (outputOf (storeText (now (text .entry)) (now (nodes .entry)) (now (numbers .entry)))) (length (now (out .entry))) (now (out .exit)) (now (answer .exit)) ⌝ }
 {
     let a = to_wkt::write(text, nodes, numbers, out);
-    *answer = [a.number as u64, a.place as u64, a.length as u64, 0];
+    *answer = write_places(a);
+}
+
+// `stored::read`, of version 1. The answer is number, place, node count, number count.
+#[no_mangle]
+pub extern "C" fn doorhollow_read_stored_1(
+    bytes: &[u8],
+    nodes: &mut [u32],
+    numbers: &mut [u32],
+    answer: &mut [u64; ANSWER_PLACES],
+)
+    ensures { λ _. ⌜ ReadsInto (readingOf version1 (nodeRoom (now (nodes .entry))) (numberRoom (now (numbers .entry))) (now (bytes .entry))) (now (nodes .entry)) (now (numbers .entry)) (now (nodes .exit)) (now (numbers .exit)) (now (answer .exit)) ⌝ }
+{
+    let a = stored::read(bytes, nodes, numbers);
+    *answer = read_places(a);
+}
+
+// `stored::write`, of version 1. The answer is number, place, length.
+#[no_mangle]
+pub extern "C" fn doorhollow_write_stored_1(
+    text: &[u8],
+    nodes: &[u32],
+    numbers: &[u32],
+    out: &mut [u8],
+    answer: &mut [u64; ANSWER_PLACES],
+)
+    ensures { λ _. ⌜ WritesInto (storedOf version1 (now (text .entry)) (now (nodes .entry)) (now (numbers .entry))) (length (now (out .entry))) (now (out .exit)) (now (answer .exit)) ⌝ }
+{
+    let a = stored::write(text, nodes, numbers, out);
+    *answer = write_places(a);
 }
 
 // `strict::strict`. The answer is number, letter, node row.

@@ -3,9 +3,13 @@
 use crate::any_bytes;
 use crate::random::Random;
 use crate::store_cases;
+use crate::stored_cases;
 use driver::record::{Record, Request, MAX_SLICE};
 
-/// The letters of the replay program.
+/// The programs that answer records, and the letters that each of them knows so far.
+pub const PROGRAMS: [(&str, &str); 2] = [("replay", "tpriws"), ("replay_stored", "SL")];
+
+/// The letters of those programs.
 #[derive(Clone, Copy, Debug, PartialEq, Eq)]
 pub enum Letter {
     Take,
@@ -14,6 +18,8 @@ pub enum Letter {
     Infer,
     Write,
     Check,
+    WriteStored,
+    ReadStored,
 }
 
 impl Letter {
@@ -25,6 +31,8 @@ impl Letter {
             'i' => Some(Letter::Infer),
             'w' => Some(Letter::Write),
             's' => Some(Letter::Check),
+            'S' => Some(Letter::WriteStored),
+            'L' => Some(Letter::ReadStored),
             _ => None,
         }
     }
@@ -34,15 +42,16 @@ impl Letter {
         Letter::from_char(char::from(request.letter())) == Some(self)
     }
 
-    /// What is asked of the text under this letter, its fields and rows drawn.
-    pub fn request(self, random: &mut Random, text: &[u8]) -> Request {
-        match self {
+    /// What is asked of the text under this letter, its fields and rows drawn. Of a stored
+    /// form the text is what it is made of.
+    pub fn case(self, random: &mut Random, text: Vec<u8>) -> Case {
+        let request = match self {
             Letter::Take => {
-                let (place, count) = place_and_count(random, text);
+                let (place, count) = place_and_count(random, &text);
                 Request::Take { place, count }
             }
             Letter::LookAndTake => {
-                let (place, count) = place_and_count(random, text);
+                let (place, count) = place_and_count(random, &text);
                 Request::LookAndTake { place, count }
             }
             Letter::Read => {
@@ -51,15 +60,18 @@ impl Letter {
             }
             Letter::Infer => Request::Infer,
             Letter::Write => {
-                let rows = store_cases::rows(random, text);
-                let output = store_cases::room(random, text, &rows);
+                let rows = store_cases::rows(random, &text);
+                let output = store_cases::room(random, &text, &rows);
                 Request::Write { output, rows }
             }
             Letter::Check => {
-                let rows = store_cases::rows(random, text);
+                let rows = store_cases::rows(random, &text);
                 Request::Check { rows }
             }
-        }
+            Letter::WriteStored => return stored_cases::writing(random, text),
+            Letter::ReadStored => return stored_cases::reading(random, &text),
+        };
+        Case { request, text }
     }
 }
 

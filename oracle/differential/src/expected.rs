@@ -4,6 +4,7 @@
 use crate::any_bytes;
 use crate::cases::Case;
 use crate::model::{self, Limits, Refusal, Store, NO_NODE_ROW, NO_NUMBER_ROW, TOO_DEEP};
+use crate::stored::{self, Room, NO_FIT};
 use crate::stores::{self, ILL_FORMED, MAX_DEPTH, NO_ROOM};
 use driver::inferred::{self, Inference};
 use driver::reader::{self, Reading, Tree};
@@ -27,7 +28,8 @@ pub enum Basis {
     Place,
     /// The model: it ends at a limit that the Rust doesn't have.
     Limit,
-    /// The model of stores, of which the Rust knows nothing; it reads the canonical text.
+    /// The models of stores and of the stored form, of which the Rust knows nothing; it
+    /// reads the canonical text.
     Stores,
 }
 
@@ -69,6 +71,13 @@ pub fn expected(case: &Case) -> Expected {
         }
         Request::Check { rows } => Expected::of_store(checking_line(&case.text, rows)),
         Request::Infer => Expected::by_rust(inference_line(&case.text)),
+        Request::WriteStored { output, rows } => {
+            Expected::of_store(stored_writing_line(&case.text, rows, *output))
+        }
+        Request::ReadStored { nodes, numbers } => {
+            let room = Room::of(*nodes, *numbers);
+            Expected::of_store(stored_reading_line(&case.text, room))
+        }
     }
 }
 
@@ -169,31 +178,34 @@ fn accepted_line(text: &str, tree: &Tree) -> String {
         text[span.start..].starts_with(&number.text) && span.length == number.text.len()
     });
     assert!(texts_in_place && spans.len() == tree.numbers.len());
-    let node_rows: Vec<String> = tree.nodes.iter().flatten().map(u32::to_string).collect();
-    let number_rows: Vec<String> = spans
-        .iter()
-        .map(|span| format!("{} {}", span.start, span.length))
-        .collect();
-    format!(
-        "0 0 {} {} ; {} ; {} ; 0",
-        tree.nodes.len(),
-        tree.numbers.len(),
-        node_rows.join(" "),
-        number_rows.join(" ")
-    )
+    let spans = spans.iter();
+    let places = spans.flat_map(|span| [span.start as u32, span.length as u32]);
+    rows_line(&Rows {
+        nodes: tree.nodes.concat(),
+        numbers: places.collect(),
+    })
 }
 
 fn writing_line(text: &[u8], rows: &Rows, room: u32) -> String {
     let Ok(root) = stores::tree(text, rows) else {
-        return format!("{ILL_FORMED} 0 0 ;  ; 0");
+        return refused_writing(ILL_FORMED);
     };
     let written = stores::canonical(&root);
     assert!(
         reads_as(&written, text, rows),
         "the Rust reads another store"
     );
+    written_line(&written, room)
+}
+
+fn refused_writing(number: u32) -> String {
+    format!("{number} 0 0 ;  ; 0")
+}
+
+/// What is written where there is room for it.
+fn written_line(written: &[u8], room: u32) -> String {
     if written.len() > room as usize {
-        return format!("{NO_ROOM} 0 0 ;  ; 0");
+        return refused_writing(NO_ROOM);
     }
     let hex: String = written.iter().map(|byte| format!("{byte:02x}")).collect();
     format!("0 0 {} ; {hex} ; 0", written.len())
@@ -208,9 +220,61 @@ fn reads_as(written: &[u8], text: &[u8], rows: &Rows) -> bool {
         return false;
     };
     let texts = tree.numbers.iter().map(|number| number.text.as_bytes());
+    tree.nodes.concat() == rows.nodes && texts.eq(number_texts(text, rows))
+}
+
+/// The number texts of a well-formed store.
+fn number_texts<'both>(text: &'both [u8], rows: &'both Rows) -> impl Iterator<Item = &'both [u8]> {
     let spans = rows.numbers.chunks_exact(2);
-    let spans = spans.map(|span| &text[span[0] as usize..][..span[1] as usize]);
-    tree.nodes.concat() == rows.nodes && texts.eq(spans)
+    spans.map(|span| &text[span[0] as usize..][..span[1] as usize])
+}
+
+fn stored_writing_line(text: &[u8], rows: &Rows, room: u32) -> String {
+    let Ok(root) = stores::tree(text, rows) else {
+        return refused_writing(ILL_FORMED);
+    };
+    let Some(written) = stored::written(&root) else {
+        return refused_writing(NO_FIT);
+    };
+    let again = stored::read(&written, Room::ANY);
+    let is_same = again.is_ok_and(|read| {
+        read.nodes == rows.nodes && number_texts(&written, &read).eq(number_texts(text, rows))
+    });
+    assert!(is_same, "what was written reads as another tree");
+    written_line(&written, room)
+}
+
+fn stored_reading_line(bytes: &[u8], room: Room) -> String {
+    let rows = match stored::read(bytes, room) {
+        Ok(rows) => rows,
+        Err(refusal) => return format!("{} {} 0 0 ;  ;  ; 0", refusal.number(), refusal.place),
+    };
+    let root = stores::tree(bytes, &rows).ok();
+    let root = root.expect("what is read is well formed");
+    assert!(
+        stored::written(&root).is_some_and(|written| written == bytes),
+        "what was read is written as other bytes"
+    );
+    assert!(
+        reads_as(&stores::canonical(&root), bytes, &rows),
+        "the Rust reads another store"
+    );
+    rows_line(&rows)
+}
+
+/// The rows of an accepted reading.
+fn rows_line(rows: &Rows) -> String {
+    let places = |slice: &[u32]| {
+        let places = slice.iter().map(u32::to_string);
+        places.collect::<Vec<_>>().join(" ")
+    };
+    format!(
+        "0 0 {} {} ; {} ; {} ; 0",
+        rows.nodes.len() / 3,
+        rows.numbers.len() / 2,
+        places(&rows.nodes),
+        places(&rows.numbers)
+    )
 }
 
 fn checking_line(text: &[u8], rows: &Rows) -> String {
@@ -317,6 +381,29 @@ mod tests {
             rows: cut,
         };
         assert_eq!(line(write), "22 0 0 ;  ; 0");
+    }
+
+    #[test]
+    fn stored_forms() {
+        let rows = Rows {
+            nodes: vec![1, 0, 1],
+            numbers: vec![0, 1, 2, 1],
+        };
+        let write = |output| {
+            let rows = rows.clone();
+            answer(Request::WriteStored { output, rows }, b"1 2").line
+        };
+        let hex = "0100050100010002020004010000010300013103000132";
+        assert_eq!(write(23), format!("0 0 23 ; {hex} ; 0"));
+        assert_eq!(write(22), "23 0 0 ;  ; 0");
+        let bytes = b"\x01\0\x05\x01\0\x01\0\x02\x02\0\x04\x01\0\0\x01\x03\0\x011\x03\0\x012";
+        let read = |nodes, numbers, bytes: &[u8]| {
+            answer(Request::ReadStored { nodes, numbers }, bytes).line
+        };
+        assert_eq!(read(5, 4, bytes), "0 0 1 2 ; 1 0 1 ; 18 1 22 1 ; 0");
+        assert_eq!(read(2, 4, bytes), "3 8 0 0 ;  ;  ; 0");
+        assert_eq!(read(3, 3, bytes), "4 19 0 0 ;  ;  ; 0");
+        assert_eq!(read(0, 0, &bytes[..22]), "25 19 0 0 ;  ;  ; 0");
     }
 
     #[test]

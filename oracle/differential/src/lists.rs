@@ -8,6 +8,7 @@ use crate::expected::expected;
 use crate::random::Random;
 use crate::range_lists;
 use crate::store_lists;
+use crate::stored::{self, Room};
 use crate::stores;
 use crate::texts::Texts;
 use driver::answer::{self, BAD_RECORD, NOT_COMPARABLE, NOT_UTF8, STACK_BYTES};
@@ -148,6 +149,8 @@ const CHECKS: usize = 400;
 
 /// Generated stores are smaller.
 const MOST_PLACES: usize = 48;
+/// And so are stored bytes.
+const MOST_BYTES: usize = 160;
 
 /// Writes `stdin` and `stdout` into the directory, with so many generated answers of
 /// tokens.
@@ -164,16 +167,25 @@ pub fn write(seed: u64, generated: usize, directory: &Path) -> io::Result<()> {
     cases.extend(spread(seed, Letter::Write, WRITINGS));
     cases.extend(spread(seed, Letter::Check, CHECKS));
     cases.extend(range_lists::cases());
-    let mut stream = cases::encode(&cases);
-    let mut lines = answers(&cases)?;
-    let bad = store_lists::bad_records();
-    for record in &bad {
+    write_files(&cases, &store_lists::bad_records(), b's', directory)
+}
+
+/// Writes the records with their answers, then bodies of records that have none and, last,
+/// a record of a letter that is cut.
+pub fn write_files(
+    cases: &[Case],
+    bad: &[Vec<u8>],
+    letter: u8,
+    directory: &Path,
+) -> io::Result<()> {
+    let mut stream = cases::encode(cases);
+    let mut lines = answers(cases)?;
+    for record in bad {
         stream.extend((record.len() as u32).to_le_bytes());
         stream.extend(record);
         lines += &format!("{BAD_RECORD}\n");
     }
-    // The last record is cut.
-    stream.extend([9, 0, 0, 0, b's']);
+    stream.extend([9, 0, 0, 0, letter]);
     lines += &format!("{BAD_RECORD}\n");
     fs::create_dir_all(directory)?;
     fs::write(directory.join("stdin"), stream)?;
@@ -260,8 +272,7 @@ fn generate(seed: u64, count: usize) -> Vec<Case> {
             0 => Letter::Take,
             _ => Letter::LookAndTake,
         };
-        let request = letter.request(&mut random, &text);
-        let case = Case { request, text };
+        let case = letter.case(&mut random, text);
         if case.text.len() <= LONGEST && has_answer(&case) {
             cases.push(case);
         }
@@ -318,13 +329,14 @@ pub fn point_and_blanks(length: usize) -> String {
     POINT.to_string() + &" ".repeat(length - POINT.len())
 }
 
-/// A refusal's number with, of 22, the clause that is broken; or 0 with the kind that was
-/// read or written or, of the strict check, a rule's letter.
+/// A refusal's number with, of 22, the clause that is broken and, of 25, what is wrong with
+/// which field; or 0 with the kind that was read or written or, of the strict check, a
+/// rule's letter.
 type Class = (u32, u32);
 
 /// Generated texts under one letter, spread evenly over the classes of answers and, in
 /// each class, over the texts that were drawn.
-fn spread(seed: u64, letter: Letter, count: usize) -> Vec<Case> {
+pub fn spread(seed: u64, letter: Letter, count: usize) -> Vec<Case> {
     const LONGEST: usize = 64;
     const DRAWN: usize = 1_000_000;
     let mut texts = Texts::new(seed);
@@ -333,9 +345,8 @@ fn spread(seed: u64, letter: Letter, count: usize) -> Vec<Case> {
     for _ in 0..DRAWN {
         let text = texts.next_short();
         if text.len() <= LONGEST {
-            let request = letter.request(&mut random, &text);
-            let case = Case { request, text };
-            if is_small(&case.request) {
+            let case = letter.case(&mut random, text);
+            if is_small(&case) {
                 by_class.entry(class(&case)).or_default().push(case);
             }
         }
@@ -348,11 +359,14 @@ fn spread(seed: u64, letter: Letter, count: usize) -> Vec<Case> {
     cases.collect()
 }
 
-fn is_small(request: &Request) -> bool {
-    match request {
-        Request::Write { rows, .. } | Request::Check { rows } => {
-            rows.nodes.len() + rows.numbers.len() <= MOST_PLACES
+fn is_small(case: &Case) -> bool {
+    let places = |rows: &Rows| rows.nodes.len() + rows.numbers.len();
+    match &case.request {
+        Request::Write { rows, .. } | Request::Check { rows } => places(rows) <= MOST_PLACES,
+        Request::WriteStored { rows, .. } => {
+            places(rows) <= MOST_PLACES && case.text.len() <= MOST_BYTES
         }
+        Request::ReadStored { .. } => case.text.len() <= MOST_BYTES,
         _ => true,
     }
 }
@@ -365,14 +379,21 @@ fn class(case: &Case) -> Class {
         .collect();
     match (numbers[0], &case.request) {
         // `0 0 NODES NUMBERS ; KIND ..`
-        (0, Request::Read { .. }) => (0, numbers[4]),
-        (0, Request::Write { rows, .. }) => (0, rows.nodes[0]),
+        (0, Request::Read { .. } | Request::ReadStored { .. }) => (0, numbers[4]),
+        (0, Request::Write { rows, .. } | Request::WriteStored { rows, .. }) => (0, rows.nodes[0]),
         // `0 LETTER ROW`
         (0, Request::Check { .. }) => (0, numbers[1]),
         // `0 0 KIND DIMENSION`
         (0, _) => (0, numbers[2]),
-        (22, Request::Write { rows, .. } | Request::Check { rows }) => {
-            (22, clause(&case.text, rows))
+        (
+            22,
+            Request::Write { rows, .. }
+            | Request::Check { rows }
+            | Request::WriteStored { rows, .. },
+        ) => (22, clause(&case.text, rows)),
+        (refusal, Request::ReadStored { nodes, numbers }) => {
+            let read = stored::read(&case.text, Room::of(*nodes, *numbers));
+            (refusal, read.expect_err("it is refused").sort())
         }
         (refusal, _) => (refusal, 0),
     }

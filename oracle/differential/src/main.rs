@@ -1,7 +1,8 @@
-//! Holds the replay program beside the Rust, and beside the model of stores where the
-//! Rust has none: makes texts from a seed, runs both on the same records and stops at
-//! the first difference, made as small as it gets. With `--list` it writes a fixed list
-//! of records and their answers instead, and with `--tokens` the list of the program `tokens`.
+//! Holds the replay programs beside the Rust, and beside the models of stores and of the
+//! stored form where the Rust has none: makes texts from a seed, runs both on the same
+//! records and stops at the first difference, made as small as it gets. With `--list` it
+//! writes a fixed list of records and their answers instead, with `--stored-list` that of
+//! the program `replay_stored`, and with `--tokens` that of the program `tokens`.
 
 mod any_bytes;
 mod cases;
@@ -20,65 +21,106 @@ mod shrink;
 mod smaller_stores;
 mod store_cases;
 mod store_lists;
+mod stored;
+mod stored_cases;
+mod stored_lists;
 mod stores;
 mod texts;
 mod token_list;
 
-use cases::{Case, Letter};
+use cases::{Case, Letter, PROGRAMS};
 use check::{check, Fault, Tally};
 use random::Random;
 use replay::Replay;
 use std::io;
-use std::path::PathBuf;
+use std::path::{Path, PathBuf};
 use std::process::ExitCode;
 use texts::Texts;
 
-/// The letters that the replay program knows so far.
-const KNOWN_LETTERS: &str = "tpriws";
-/// One run of the replay program answers the records of so many texts.
+/// One run of a replay program answers the records of so many texts.
 const TEXTS_PER_RUN: usize = 20_000;
 
-const USAGE: &str =
-    "usage: differential [--letters LETTERS] --replay PROGRAM [--word WORD].. SEED COUNT
+const USAGE: &str = "usage: differential [--letters LETTERS] --run PROGRAM SEED COUNT
+       differential [--letters LETTERS] --replay PROGRAM SEED COUNT
        differential --list SEED COUNT DIRECTORY
+       differential --stored-list SEED COUNT DIRECTORY
        differential --tokens DIRECTORY";
 
+/// What is written or compared.
+#[derive(Clone, Copy, PartialEq, Eq)]
+enum Mode {
+    Compare,
+    List,
+    StoredList,
+    Tokens,
+}
+
 struct Options {
-    letters: Vec<Letter>,
+    mode: Mode,
+    letters: Option<String>,
+    /// Runs the program whose name it is given.
+    run: Option<PathBuf>,
+    /// Answers all letters itself.
     replay: Option<PathBuf>,
-    /// What the replay program is given as arguments.
-    words: Vec<String>,
-    is_list: bool,
-    is_tokens: bool,
     rest: Vec<String>,
 }
 
 fn options(mut arguments: impl Iterator<Item = String>) -> Option<Options> {
-    let mut letters = KNOWN_LETTERS.to_string();
-    let mut replay = None;
-    let mut words = Vec::new();
-    let mut is_list = false;
-    let mut is_tokens = false;
-    let mut rest = Vec::new();
+    let mut options = Options {
+        mode: Mode::Compare,
+        letters: None,
+        run: None,
+        replay: None,
+        rest: Vec::new(),
+    };
     while let Some(argument) = arguments.next() {
         match argument.as_str() {
-            "--letters" => letters = arguments.next()?,
-            "--replay" => replay = Some(PathBuf::from(arguments.next()?)),
-            "--word" => words.push(arguments.next()?),
-            "--list" => is_list = true,
-            "--tokens" => is_tokens = true,
-            _ => rest.push(argument),
+            "--letters" => options.letters = Some(arguments.next()?),
+            "--run" => options.run = Some(PathBuf::from(arguments.next()?)),
+            "--replay" => options.replay = Some(PathBuf::from(arguments.next()?)),
+            "--list" => options.mode = Mode::List,
+            "--stored-list" => options.mode = Mode::StoredList,
+            "--tokens" => options.mode = Mode::Tokens,
+            _ => options.rest.push(argument),
         }
     }
-    let letters: Option<Vec<Letter>> = letters.chars().map(Letter::from_char).collect();
-    Some(Options {
-        letters: letters?,
-        replay,
-        words,
-        is_list,
-        is_tokens,
-        rest,
-    })
+    Some(options)
+}
+
+/// A program, and the letters that it is asked.
+struct Asked {
+    replay: Replay,
+    letters: Vec<Letter>,
+}
+
+/// The programs to compare with; `None` for letters that nobody knows.
+fn asked(options: &Options) -> Option<Vec<Asked>> {
+    if let Some(program) = &options.replay {
+        let (_, known) = PROGRAMS[0];
+        let letters = options.letters.as_deref().unwrap_or(known);
+        return Some(vec![Asked {
+            replay: Replay::new(program, &[]),
+            letters: letters
+                .chars()
+                .map(Letter::from_char)
+                .collect::<Option<_>>()?,
+        }]);
+    }
+    let run = options.run.as_ref()?;
+    let all = PROGRAMS.map(|(_, known)| known).concat();
+    let letters = options.letters.as_deref().unwrap_or(&all);
+    if !letters.chars().all(|letter| all.contains(letter)) {
+        return None;
+    }
+    let programs = PROGRAMS.iter().map(|(name, known)| Asked {
+        replay: Replay::new(run, &[name]),
+        letters: letters
+            .chars()
+            .filter(|letter| known.contains(*letter))
+            .filter_map(Letter::from_char)
+            .collect(),
+    });
+    Some(programs.filter(|asked| !asked.letters.is_empty()).collect())
 }
 
 fn main() -> ExitCode {
@@ -99,7 +141,7 @@ fn main() -> ExitCode {
 
 /// Whether all went well; `None` for arguments that mean nothing.
 fn run(options: Options) -> Option<io::Result<bool>> {
-    if options.is_tokens {
+    if options.mode == Mode::Tokens {
         let [directory] = options.rest.as_slice() else {
             return None;
         };
@@ -107,47 +149,60 @@ fn run(options: Options) -> Option<io::Result<bool>> {
     }
     let seed = options.rest.first()?.parse().ok()?;
     let count = options.rest.get(1)?.parse().ok()?;
-    match (options.is_list, &options.rest[2..]) {
-        (true, [directory]) => Some(lists::write(seed, count, directory.as_ref()).map(|()| true)),
-        (false, []) => {
-            let replay = Replay {
-                program: options.replay?,
-                words: options.words,
-            };
-            Some(compare(&replay, &options.letters, seed, count))
+    let directory = options.rest.get(2).map(Path::new);
+    match (options.mode, directory, options.rest.get(3)) {
+        (Mode::List, Some(directory), None) => {
+            Some(lists::write(seed, count, directory).map(|()| true))
         }
+        (Mode::StoredList, Some(directory), None) => {
+            Some(stored_lists::write(seed, count, directory).map(|()| true))
+        }
+        (Mode::Compare, None, None) => Some(compare(&asked(&options)?, seed, count)),
         _ => None,
     }
 }
 
 /// Compares on so many texts; false after the first difference, which is printed.
-fn compare(replay: &Replay, letters: &[Letter], seed: u64, count: usize) -> io::Result<bool> {
+fn compare(programs: &[Asked], seed: u64, count: usize) -> io::Result<bool> {
+    for asked in programs {
+        asked.replay.build()?;
+    }
+    let mut tally = Tally::new();
+    for asked in programs {
+        if !compare_one(asked, seed, count, &mut tally)? {
+            return Ok(false);
+        }
+    }
+    report::print_tally(seed, count, &tally);
+    Ok(true)
+}
+
+fn compare_one(asked: &Asked, seed: u64, count: usize, tally: &mut Tally) -> io::Result<bool> {
+    let Asked { replay, letters } = asked;
     let mut texts = Texts::new(seed);
     // Places and rooms are drawn apart, so that the texts are the same for any letters.
     let mut random = Random::new(!seed);
-    let mut tally = Tally::new();
     let mut cases = largest(letters);
     let mut left = count;
     loop {
-        if let Some(fault) = check(replay, &cases, &mut tally)? {
+        if let Some(fault) = check(replay, &cases, tally)? {
             explain(replay, &cases, fault)?;
             return Ok(false);
         }
         if left == 0 {
-            break;
+            return Ok(true);
         }
         let now = left.min(TEXTS_PER_RUN);
         cases = next_cases(&mut texts, &mut random, letters, now);
         left -= now;
     }
-    report::print_tally(seed, count, &tally);
-    Ok(true)
 }
 
 /// The largest records of these letters.
 fn largest(letters: &[Letter]) -> Vec<Case> {
     let is_asked = |case: &Case| letters.iter().any(|letter| letter.asks(&case.request));
     let cases = store_lists::largest().into_iter();
+    let cases = cases.chain(stored_lists::largest());
     cases.filter(is_asked).collect()
 }
 
@@ -161,10 +216,7 @@ fn next_cases(
     for _ in 0..count {
         let text = texts.next();
         for letter in letters {
-            cases.push(Case {
-                request: letter.request(random, &text),
-                text: text.clone(),
-            });
+            cases.push(letter.case(random, text.clone()));
         }
     }
     cases

@@ -1,14 +1,14 @@
-//! The replay program, run as a child process.
+//! A replay program, run as a child process.
 
 use std::io::{self, Read, Write};
-use std::path::PathBuf;
+use std::path::{Path, PathBuf};
 use std::process::{Command, ExitStatus, Stdio};
 use std::thread;
 
 pub struct Replay {
-    pub program: PathBuf,
+    program: PathBuf,
     /// Its arguments.
-    pub words: Vec<String>,
+    words: Vec<String>,
 }
 
 pub struct Replies {
@@ -17,6 +17,24 @@ pub struct Replies {
 }
 
 impl Replay {
+    pub fn new(program: &Path, words: &[&str]) -> Self {
+        Replay {
+            program: program.to_path_buf(),
+            words: words.iter().map(|word| word.to_string()).collect(),
+        }
+    }
+
+    /// Given no record it answers nothing: what has to be built is built now.
+    pub fn build(&self) -> io::Result<()> {
+        let status = self.answer(&[])?.status;
+        if status.success() {
+            return Ok(());
+        }
+        let words = [&[self.program.display().to_string()], &self.words[..]].concat();
+        let message = format!("`{}` ended with {status}", words.join(" "));
+        Err(io::Error::other(message))
+    }
+
     /// Answers a stream of records. The stream is written from a thread of its own,
     /// so that the program never waits for its output to be read.
     pub fn answer(&self, stream: &[u8]) -> io::Result<Replies> {

@@ -57,10 +57,10 @@ fn described(request: &Request) -> String {
         Request::Take { place, count } | Request::LookAndTake { place, count } => {
             format!("{letter}, place {place}, count {count}")
         }
-        Request::Read { nodes, numbers } => {
+        Request::Read { nodes, numbers } | Request::ReadStored { nodes, numbers } => {
             format!("{letter}, node slice {nodes}, number slice {numbers}")
         }
-        Request::Write { output, rows } => {
+        Request::Write { output, rows } | Request::WriteStored { output, rows } => {
             format!("{letter}, output {output}, {}", described_rows(rows))
         }
         Request::Check { rows } => format!("{letter}, {}", described_rows(rows)),

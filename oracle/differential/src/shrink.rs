@@ -4,11 +4,12 @@ use crate::cases::Case;
 use crate::check::{check, Fault, Tally};
 use crate::replay::Replay;
 use crate::smaller_stores::smaller;
+use crate::stored_cases;
 use driver::record::{Request, Rows};
 use std::io;
 
 /// Candidates are tried together in one run of the replay program, up to so many
-/// bytes; a text that needs more is left as it is.
+/// bytes; a text or a store that needs more is left as it is.
 const MAX_ROUND_BYTES: usize = 1 << 26;
 
 fn fault(replay: &Replay, cases: &[Case]) -> io::Result<Option<Fault>> {
@@ -53,8 +54,28 @@ pub fn smallest(replay: &Replay, case: Case) -> io::Result<Case> {
 }
 
 fn round_bytes(case: &Case, step: usize) -> usize {
-    let length = case.text.len();
-    length * length.div_ceil(step)
+    let parts = case.text.len().div_ceil(step);
+    parts * (case.text.len() + 4 * places(&case.request))
+}
+
+/// How many places the rows of a request have.
+fn places(request: &Request) -> usize {
+    match request {
+        Request::Write { rows, .. }
+        | Request::Check { rows }
+        | Request::WriteStored { rows, .. } => rows.nodes.len() + rows.numbers.len(),
+        _ => 0,
+    }
+}
+
+/// About how many bytes all smaller stores of a case have.
+fn store_bytes(case: &Case) -> usize {
+    match &case.request {
+        // A field has three bytes at least; there are two ways to make it smaller, and
+        // four pairs of slices.
+        Request::ReadStored { .. } => 8 * case.text.len() / 3 * case.text.len(),
+        request => places(request) * (case.text.len() + 4 * places(request)),
+    }
 }
 
 /// The case without each of its parts of `step` bytes. A text that is UTF-8 stays so.
@@ -103,13 +124,20 @@ fn moved_back(request: &Request, start: usize, end: usize) -> Request {
         Request::Check { rows } => Request::Check {
             rows: moved_rows(rows),
         },
+        Request::WriteStored { output, rows } => Request::WriteStored {
+            output: *output,
+            rows: moved_rows(rows),
+        },
         other => other.clone(),
     }
 }
 
 /// The same text, with fewer tokens demanded or from the start, a smaller store or a
-/// smaller output.
+/// smaller output; or the stored bytes of a smaller store.
 fn with_simpler_fields(case: &Case) -> Vec<Case> {
+    if store_bytes(case) > MAX_ROUND_BYTES {
+        return Vec::new();
+    }
     let requests = match &case.request {
         Request::Take { place, count } => simpler_demands(*place, *count)
             .map(|(place, count)| Request::Take { place, count })
@@ -117,10 +145,18 @@ fn with_simpler_fields(case: &Case) -> Vec<Case> {
         Request::LookAndTake { place, count } => simpler_demands(*place, *count)
             .map(|(place, count)| Request::LookAndTake { place, count })
             .collect(),
-        Request::Write { output, rows } => simpler_writings(&case.text, *output, rows),
+        Request::Write { output, rows } => simpler_writings(&case.text, *output, rows)
+            .map(|(output, rows)| Request::Write { output, rows })
+            .collect(),
+        Request::WriteStored { output, rows } => simpler_writings(&case.text, *output, rows)
+            .map(|(output, rows)| Request::WriteStored { output, rows })
+            .collect(),
         Request::Check { rows } => {
             let stores = smaller(&case.text, rows).into_iter();
             stores.map(|rows| Request::Check { rows }).collect()
+        }
+        Request::ReadStored { nodes, numbers } => {
+            return simpler_stored_readings(&case.text, *nodes, *numbers)
         }
         Request::Read { .. } | Request::Infer => Vec::new(),
     };
@@ -142,14 +178,30 @@ fn simpler_demands(place: u32, count: u32) -> impl Iterator<Item = (u32, u32)> {
         .filter(move |fields| *fields != (place, count))
 }
 
-fn simpler_writings(text: &[u8], output: u32, rows: &Rows) -> Vec<Request> {
+fn simpler_writings(text: &[u8], output: u32, rows: &Rows) -> impl Iterator<Item = (u32, Rows)> {
     let outputs = [0, output / 2, output.saturating_sub(1)].into_iter();
-    let outputs = outputs.filter(|smaller| *smaller < output);
-    let with_output = outputs.map(|output| Request::Write {
-        output,
-        rows: rows.clone(),
-    });
+    let outputs = outputs.filter(move |smaller| *smaller < output);
+    let with_output: Vec<_> = outputs.map(|output| (output, rows.clone())).collect();
     let stores = smaller(text, rows).into_iter();
-    let with_store = stores.map(|rows| Request::Write { output, rows });
-    with_output.chain(with_store).collect()
+    let with_store = stores.map(move |rows| (output, rows));
+    with_output.into_iter().chain(with_store)
+}
+
+/// Smaller stored bytes, in the same slices and in slices with a row less.
+fn simpler_stored_readings(bytes: &[u8], nodes: u32, numbers: u32) -> Vec<Case> {
+    let (fewer_nodes, fewer_numbers) = (nodes.saturating_sub(3), numbers.saturating_sub(2));
+    let slices = [
+        (nodes, numbers),
+        (fewer_nodes, numbers),
+        (nodes, fewer_numbers),
+        (fewer_nodes, fewer_numbers),
+    ];
+    let smaller = stored_cases::smaller(bytes).into_iter();
+    let cases = smaller.flat_map(|bytes| {
+        slices.map(|(nodes, numbers)| Case {
+            request: Request::ReadStored { nodes, numbers },
+            text: bytes.clone(),
+        })
+    });
+    cases.collect()
 }

@@ -37,13 +37,18 @@ pub fn read(text: &[u8]) -> Option<Rows> {
     })
 }
 
-/// Rows over a text.
-pub fn rows(random: &mut Random, text: &[u8]) -> Rows {
+/// Rows over a text, well formed but for collections that are too deep.
+pub fn unchanged_rows(random: &mut Random, text: &[u8]) -> Rows {
     let read = match random.once_in(3) {
         true => None,
         false => read(text),
     };
-    let mut rows = read.unwrap_or_else(|| made(random, text));
+    read.unwrap_or_else(|| made(random, text))
+}
+
+/// Rows over a text.
+pub fn rows(random: &mut Random, text: &[u8]) -> Rows {
+    let mut rows = unchanged_rows(random, text);
     for _ in 0..*random.pick(&[0, 0, 0, 0, 0, 1, 1, 1, 2, 3]) {
         change(random, text, &mut rows);
     }
@@ -58,6 +63,10 @@ pub fn room(random: &mut Random, text: &[u8], rows: &Rows) -> u32 {
         Ok(root) => stores::canonical(&root).len(),
         Err(_) => random.below(64),
     };
+    room_near(random, length)
+}
+
+pub fn room_near(random: &mut Random, length: usize) -> u32 {
     let room = match random.below(8) {
         0 => length.saturating_sub(1),
         1 => length + 1,

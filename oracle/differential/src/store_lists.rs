@@ -22,27 +22,28 @@ const MAX: u32 = u32::MAX;
 const HALF: u32 = 1 << 31;
 const QUARTER: u32 = 1 << 30;
 
+/// What writers and the strict check are lent.
 #[derive(Clone, Debug)]
-pub struct Stored {
-    text: Vec<u8>,
-    rows: Rows,
+pub struct Lent {
+    pub text: Vec<u8>,
+    pub rows: Rows,
 }
 
-impl Stored {
+impl Lent {
     /// What the model reads.
-    fn read(text: &str) -> Self {
+    pub fn read(text: &str) -> Self {
         let rows = store_cases::read(text.as_bytes()).expect("a text that is read");
         let text = text.as_bytes().to_vec();
-        Stored { text, rows }
+        Lent { text, rows }
     }
 
-    fn of(text: &[u8], nodes: &[[u32; 3]], numbers: &[[u32; 2]]) -> Self {
+    pub fn of(text: &[u8], nodes: &[[u32; 3]], numbers: &[[u32; 2]]) -> Self {
         let rows = Rows {
             nodes: nodes.concat(),
             numbers: numbers.concat(),
         };
         let text = text.to_vec();
-        Stored { text, rows }
+        Lent { text, rows }
     }
 
     fn with(&self, change: impl FnOnce(&mut Rows)) -> Self {
@@ -89,25 +90,27 @@ pub fn cases() -> Vec<Case> {
             cases.push(broken.write(0));
         }
     }
-    for stored in of_every_kind().iter().chain(&more_well_formed()) {
-        let length = stored.length();
+    for lent in of_every_kind().iter().chain(&more_well_formed()) {
+        let length = lent.length();
         let rooms = [length, length - 1, length + 1, 0, length + MUCH];
-        cases.extend(rooms.map(|room| stored.write(room)));
-        cases.push(stored.check());
+        cases.extend(rooms.map(|room| lent.write(room)));
+        cases.push(lent.check());
     }
-    for stored in number_texts() {
-        cases.extend([stored.write(ROOMY), stored.check()]);
+    for lent in number_texts() {
+        cases.extend([lent.write(ROOMY), lent.check()]);
     }
     for text in STRICT {
-        let stored = Stored::read(text);
-        cases.extend([stored.check(), stored.write(ROOMY)]);
+        let lent = Lent::read(text);
+        cases.extend([lent.check(), lent.write(ROOMY)]);
     }
-    cases.extend(any_text());
+    for lent in any_text() {
+        cases.extend([lent.write(11), lent.check()]);
+    }
     cases
 }
 
 /// Stores with the clause that each of them breaks.
-fn broken() -> Vec<(Clause, Stored)> {
+pub fn broken() -> Vec<(Clause, Lent)> {
     let mut broken = broken_slices();
     broken.extend(broken_trees());
     broken.extend(broken_rows());
@@ -119,10 +122,10 @@ fn broken() -> Vec<(Clause, Stored)> {
     broken
 }
 
-fn broken_slices() -> Vec<(Clause, Stored)> {
-    let point = Stored::read("POINT(1 2)");
-    let empty = Stored::read("POINT EMPTY");
-    let points = Stored::read("MULTIPOINT(1 2,3 4)");
+fn broken_slices() -> Vec<(Clause, Lent)> {
+    let point = Lent::read("POINT(1 2)");
+    let empty = Lent::read("POINT EMPTY");
+    let points = Lent::read("MULTIPOINT(1 2,3 4)");
     let nodes = [
         point.with(|rows| rows.nodes.push(0)),
         point.with(|rows| rows.nodes.extend([1, 0])),
@@ -138,23 +141,23 @@ fn broken_slices() -> Vec<(Clause, Stored)> {
         empty.with(|rows| rows.numbers.push(0)),
         points.with(|rows| rows.numbers.push(1)),
     ];
-    let nodes = nodes.map(|stored| (Clause::NodePlaces, stored));
-    let numbers = numbers.map(|stored| (Clause::NumberPlaces, stored));
+    let nodes = nodes.map(|lent| (Clause::NodePlaces, lent));
+    let numbers = numbers.map(|lent| (Clause::NumberPlaces, lent));
     nodes.into_iter().chain(numbers).collect()
 }
 
 /// No root, two roots, a child too few, a row too many.
-fn broken_trees() -> Vec<(Clause, Stored)> {
+fn broken_trees() -> Vec<(Clause, Lent)> {
     let mut broken = vec![
-        (Clause::NoRow, Stored::of(b"", &[], &[])),
-        (Clause::NoRow, Stored::of(b"1 2", &[], &[])),
+        (Clause::NoRow, Lent::of(b"", &[], &[])),
+        (Clause::NoRow, Lent::of(b"1 2", &[], &[])),
     ];
-    let empty = Stored::read("POINT EMPTY");
+    let empty = Lent::read("POINT EMPTY");
     for row in [[1, 0, 0], [0, 0, 0], [7, 0, 0]] {
         let two = empty.with(|rows| rows.nodes.extend(row));
         broken.push((Clause::RowLeft, two));
     }
-    let zero_row = Stored::read("POINT(1 2)").with(|rows| rows.nodes.extend([0, 0, 0]));
+    let zero_row = Lent::read("POINT(1 2)").with(|rows| rows.nodes.extend([0, 0, 0]));
     broken.push((Clause::RowLeft, zero_row));
     for text in [
         "POLYGON(EMPTY)",
@@ -164,12 +167,12 @@ fn broken_trees() -> Vec<(Clause, Stored)> {
         "GEOMETRYCOLLECTION(POINT EMPTY)",
         "GEOMETRYCOLLECTION(GEOMETRYCOLLECTION(POINT EMPTY),LINESTRING EMPTY)",
     ] {
-        let stored = Stored::read(text);
-        let last = stored.rows.nodes.len() - 3;
-        broken.push((Clause::NoRow, stored.with(|rows| rows.nodes.truncate(last))));
-        broken.push((Clause::NoRow, stored.node_place(2, 3)));
-        broken.push((Clause::NoRow, stored.node_place(2, MAX)));
-        broken.push((Clause::RowLeft, stored.node_place(2, 0)));
+        let lent = Lent::read(text);
+        let last = lent.rows.nodes.len() - 3;
+        broken.push((Clause::NoRow, lent.with(|rows| rows.nodes.truncate(last))));
+        broken.push((Clause::NoRow, lent.node_place(2, 3)));
+        broken.push((Clause::NoRow, lent.node_place(2, MAX)));
+        broken.push((Clause::RowLeft, lent.node_place(2, 0)));
     }
     for text in [
         "MULTIPOINT(1 2)",
@@ -177,21 +180,21 @@ fn broken_trees() -> Vec<(Clause, Stored)> {
         "MULTILINESTRING((1 2))",
         "MULTIPOLYGON(((1 2)))",
     ] {
-        let stored = Stored::read(text);
-        broken.push((Clause::NoRow, stored.node_place(2, 2)));
-        broken.push((Clause::NoRow, stored.node_place(2, HALF)));
+        let lent = Lent::read(text);
+        broken.push((Clause::NoRow, lent.node_place(2, 2)));
+        broken.push((Clause::NoRow, lent.node_place(2, HALF)));
     }
-    let two = Stored::read("GEOMETRYCOLLECTION(POLYGON(EMPTY,EMPTY),POINT EMPTY)");
+    let two = Lent::read("GEOMETRYCOLLECTION(POLYGON(EMPTY,EMPTY),POINT EMPTY)");
     broken.push((Clause::RowLeft, two.node_place(2, 1)));
     broken.push((Clause::RowLeft, two.node_place(5, 0)));
     broken
 }
 
-fn broken_rows() -> Vec<(Clause, Stored)> {
-    let point = Stored::read("POINT EMPTY");
-    let lines = Stored::read("GEOMETRYCOLLECTION(POINT EMPTY,LINESTRING EMPTY)");
-    let polygon = Stored::read("POLYGON(EMPTY)");
-    let with_number = Stored::read("POINT(1 2)");
+fn broken_rows() -> Vec<(Clause, Lent)> {
+    let point = Lent::read("POINT EMPTY");
+    let lines = Lent::read("GEOMETRYCOLLECTION(POINT EMPTY,LINESTRING EMPTY)");
+    let polygon = Lent::read("POLYGON(EMPTY)");
+    let with_number = Lent::read("POINT(1 2)");
     let mut broken = Vec::new();
     for kind in [0, 8, 9, 255, 257, 65_537, HALF + 1, MAX] {
         broken.push((Clause::Kind, point.node_place(0, kind)));
@@ -210,7 +213,7 @@ fn broken_rows() -> Vec<(Clause, Stored)> {
 }
 
 /// A child of another kind, or of another dimension, under each kind from 3 to 6.
-fn broken_children() -> Vec<(Clause, Stored)> {
+fn broken_children() -> Vec<(Clause, Lent)> {
     let mut broken = Vec::new();
     for (parent, child) in [
         (POLYGON, LINE_STRING),
@@ -220,28 +223,28 @@ fn broken_children() -> Vec<(Clause, Stored)> {
     ] {
         let kinds = POINT..=GEOMETRY_COLLECTION;
         for kind in kinds.filter(|kind| *kind != child) {
-            let stored = Stored::of(b"", &[[parent, 0, 1], [kind, 0, 0]], &[]);
-            broken.push((Clause::ChildKind, stored));
+            let lent = Lent::of(b"", &[[parent, 0, 1], [kind, 0, 0]], &[]);
+            broken.push((Clause::ChildKind, lent));
         }
         for (above, below) in [(0, 1), (0, 2), (1, 0), (1, 3), (2, 1), (3, 2)] {
-            let stored = Stored::of(b"", &[[parent, above, 1], [child, below, 0]], &[]);
-            broken.push((Clause::ChildDimension, stored));
+            let lent = Lent::of(b"", &[[parent, above, 1], [child, below, 0]], &[]);
+            broken.push((Clause::ChildDimension, lent));
         }
     }
-    let line = Stored::of(b"1 2", &[[4, 0, 1], [2, 0, 1]], &[[0, 1], [2, 1]]);
+    let line = Lent::of(b"1 2", &[[4, 0, 1], [2, 0, 1]], &[[0, 1], [2, 1]]);
     broken.push((Clause::ChildKind, line));
     // As many numbers, so that only the dimension is wrong.
     for text in ["MULTIPOINT Z(1 2 3)", "POLYGON Z((1 2 3))"] {
-        let stored = Stored::read(text).node_place(4, 2);
-        broken.push((Clause::ChildDimension, stored));
+        let lent = Lent::read(text).node_place(4, 2);
+        broken.push((Clause::ChildDimension, lent));
     }
-    let ring = Stored::read("MULTIPOLYGON(EMPTY,(EMPTY,EMPTY))");
+    let ring = Lent::read("MULTIPOLYGON(EMPTY,(EMPTY,EMPTY))");
     broken.push((Clause::ChildDimension, ring.node_place(13, 3)));
     broken.push((Clause::ChildKind, ring.node_place(12, POINT)));
     broken
 }
 
-fn broken_points() -> Vec<(Clause, Stored)> {
+fn broken_points() -> Vec<(Clause, Lent)> {
     let four = [[0, 1], [2, 1], [4, 1], [6, 1]];
     let text = b"1 2 3 4";
     let mut broken = Vec::new();
@@ -250,29 +253,29 @@ fn broken_points() -> Vec<(Clause, Stored)> {
         &[[4, 0, 1], [1, 0, 2]],
         &[[7, 0, 1], [1, 0, 2]],
     ] {
-        broken.push((Clause::PointParts, Stored::of(text, nodes, &four)));
+        broken.push((Clause::PointParts, Lent::of(text, nodes, &four)));
     }
     for parts in [3, HALF, HALF + 1, MAX] {
-        let point = Stored::of(text, &[[1, 0, parts]], &four[..2]);
+        let point = Lent::of(text, &[[1, 0, parts]], &four[..2]);
         broken.push((Clause::PointParts, point));
     }
     for dimension in 0..4 {
         let nodes = [[4, dimension, 1], [1, dimension, 0]];
-        broken.push((Clause::EmptyPoint, Stored::of(b"", &nodes, &[])));
+        broken.push((Clause::EmptyPoint, Lent::of(b"", &nodes, &[])));
     }
     let second = [[4, 0, 2], [1, 0, 1], [1, 0, 0]];
     let first = [[4, 0, 2], [1, 0, 0], [1, 0, 1]];
     for nodes in [first, second] {
-        broken.push((Clause::EmptyPoint, Stored::of(text, &nodes, &four[..2])));
+        broken.push((Clause::EmptyPoint, Lent::of(text, &nodes, &four[..2])));
     }
     broken
 }
 
-fn nested(depth: usize, inside: &str) -> String {
+pub fn nested(depth: usize, inside: &str) -> String {
     COLLECTION.repeat(depth) + inside + &")".repeat(depth)
 }
 
-fn too_deep() -> Vec<(Clause, Stored)> {
+fn too_deep() -> Vec<(Clause, Lent)> {
     let deep = nested(MOST_OPEN, "POINT EMPTY");
     let texts = [
         nested(MOST_OPEN + 1, "POINT(1 2)"),
@@ -284,18 +287,18 @@ fn too_deep() -> Vec<(Clause, Stored)> {
             &format!("{},POINT EMPTY", nested(MOST_OPEN - 1, "POINT(1 2)")),
         ),
     ];
-    let stored = texts.map(|text| (Clause::Depth, Stored::read(&text)));
-    stored.into_iter().collect()
+    let lent = texts.map(|text| (Clause::Depth, Lent::read(&text)));
+    lent.into_iter().collect()
 }
 
 /// Numbers too few or too many; counts that come out right only where they wrap.
-fn broken_counts() -> Vec<(Clause, Stored)> {
-    let point = Stored::read("POINT(1 2)");
-    let empty = Stored::read("POINT EMPTY");
-    let line = Stored::read("LINESTRING(1 2,3 4)");
-    let line_zm = Stored::read("LINESTRING ZM(1 2 3 4,5 6 7 8)");
-    let point_z = Stored::read("POINT Z(1 2 3)");
-    let none = Stored::of(b"", &[[2, 0, 0]], &[]);
+fn broken_counts() -> Vec<(Clause, Lent)> {
+    let point = Lent::read("POINT(1 2)");
+    let empty = Lent::read("POINT EMPTY");
+    let line = Lent::read("LINESTRING(1 2,3 4)");
+    let line_zm = Lent::read("LINESTRING ZM(1 2 3 4,5 6 7 8)");
+    let point_z = Lent::read("POINT Z(1 2 3)");
+    let none = Lent::of(b"", &[[2, 0, 0]], &[]);
     let mut broken = vec![
         (
             Clause::NoNumber,
@@ -341,14 +344,14 @@ fn broken_counts() -> Vec<(Clause, Stored)> {
         let three = none.node_place(1, 1).node_place(2, parts);
         broken.push((Clause::NoNumber, three));
     }
-    let lines = Stored::read("MULTILINESTRING((1 2),(3 4))");
+    let lines = Lent::read("MULTILINESTRING((1 2),(3 4))");
     let wrapped = lines.node_place(5, HALF).node_place(8, HALF + 2);
     broken.push((Clause::NoNumber, wrapped));
     broken
 }
 
 /// Spans that lie outside the text or are no lexemes, as the first number and the last.
-fn broken_spans() -> Vec<(Clause, Stored)> {
+fn broken_spans() -> Vec<(Clause, Lent)> {
     const TEXT: &[u8] = b"1 2";
     const OUTSIDE: [[u32; 2]; 15] = [
         [2, 2],
@@ -373,14 +376,14 @@ fn broken_spans() -> Vec<(Clause, Stored)> {
     let spans = outside.into_iter().chain(inside);
     let mut broken: Vec<_> = spans
         .flat_map(|(clause, span)| {
-            let first = Stored::of(TEXT, &[[1, 0, 1]], &[span, [2, 1]]);
-            let last = Stored::of(TEXT, &[[1, 0, 1]], &[[0, 1], span]);
+            let first = Lent::of(TEXT, &[[1, 0, 1]], &[span, [2, 1]]);
+            let last = Lent::of(TEXT, &[[1, 0, 1]], &[[0, 1], span]);
             [(clause, first), (clause, last)]
         })
         .collect();
-    let no_text = Stored::of(b"", &[[1, 0, 1]], &[[0, 1], [0, 1]]);
+    let no_text = Lent::of(b"", &[[1, 0, 1]], &[[0, 1], [0, 1]]);
     broken.push((Clause::OutsideText, no_text));
-    let empty_spans = Stored::of(b"", &[[1, 0, 1]], &[[0, 0], [0, 0]]);
+    let empty_spans = Lent::of(b"", &[[1, 0, 1]], &[[0, 0], [0, 0]]);
     broken.push((Clause::NoLexeme, empty_spans));
     for text in ["1\0", "\0", "1京", "京", "１", "1 ", " 1", "\u{a0}1", "1\n"] {
         broken.push((Clause::NoLexeme, one_number(text.as_bytes())));
@@ -390,14 +393,14 @@ fn broken_spans() -> Vec<(Clause, Stored)> {
 }
 
 /// A point whose X has this text.
-fn one_number(text: &[u8]) -> Stored {
+pub fn one_number(text: &[u8]) -> Lent {
     let length = text.len() as u32;
     let text = [text, b" 1"].concat();
-    Stored::of(&text, &[[1, 0, 1]], &[[0, length], [length + 1, 1]])
+    Lent::of(&text, &[[1, 0, 1]], &[[0, length], [length + 1, 1]])
 }
 
 /// Good and bad number texts, of which the good ones are written.
-fn number_texts() -> Vec<Stored> {
+pub fn number_texts() -> Vec<Lent> {
     let texts = NUMBER_TEXTS
         .split(' ')
         .chain(["INF", "Nan", "iNFINITY", "z"]);
@@ -426,7 +429,7 @@ const BODIES: [(&str, [&str; 3]); 6] = [
 ];
 const ENDINGS: [&str; 4] = ["", " Z", " M", " ZM"];
 
-fn of_every_kind() -> Vec<Stored> {
+pub fn of_every_kind() -> Vec<Lent> {
     let mut numbers = NUMBERS.iter().cycle();
     let mut texts = Vec::new();
     for (dimension, ending) in ENDINGS.iter().enumerate() {
@@ -440,7 +443,7 @@ fn of_every_kind() -> Vec<Stored> {
         texts.push(format!("GEOMETRYCOLLECTION{ending} EMPTY"));
         texts.push(format!("GEOMETRYCOLLECTION{ending}({all})"));
     }
-    texts.iter().map(|text| Stored::read(text)).collect()
+    texts.iter().map(|text| Lent::read(text)).collect()
 }
 
 /// The text with a coordinate for each `#`.
@@ -461,7 +464,7 @@ fn with_numbers<'text>(
 
 /// Nested ones, at the limit of depth, edges of document 01, and other dimensions inside
 /// collections.
-fn more_well_formed() -> Vec<Stored> {
+pub fn more_well_formed() -> Vec<Lent> {
     let deep = nested(MOST_OPEN - 1, "POINT EMPTY");
     let texts = [
         nested(MOST_OPEN, "POINT(1 2)"),
@@ -474,12 +477,12 @@ fn more_well_formed() -> Vec<Stored> {
         "GEOMETRYCOLLECTION(POINT ZM EMPTY,GEOMETRYCOLLECTION M(POINT Z(1 2 3)),POINT M(4 5 6))"
             .to_string(),
     ];
-    let mut stored: Vec<_> = texts.iter().map(|text| Stored::read(text)).collect();
+    let mut lent: Vec<_> = texts.iter().map(|text| Lent::read(text)).collect();
     // Spans that overlap, come twice, or stand in another order than the numbers.
     let spans = [[3, 1], [0, 4], [1, 3], [1, 3]];
-    stored.push(Stored::of(b"-1.5", &[[2, 0, 2]], &spans));
-    stored.push(Stored::of(b"+infinity", &[[1, 0, 1]], &[[1, 3], [0, 9]]));
-    stored
+    lent.push(Lent::of(b"-1.5", &[[2, 0, 2]], &spans));
+    lent.push(Lent::of(b"+infinity", &[[1, 0, 1]], &[[1, 3], [0, 9]]));
+    lent
 }
 
 /// Rules A to D: each alone, several at one node, the first in node order.
@@ -553,21 +556,16 @@ const STRICT: &[&str] = &[
     "GEOMETRYCOLLECTION(LINESTRING EMPTY,LINESTRING(1 2,3 4))",
 ];
 
-/// Writer and strict check test neither the length nor the UTF-8 of the lent text.
-fn any_text() -> Vec<Case> {
+/// Writers and strict check test neither the length nor the UTF-8 of the lent text.
+pub fn any_text() -> [Lent; 2] {
     let point = [[1, 0, 1]];
     let mut long = point_and_blanks(LONGEST_READ + 1).into_bytes();
     long.extend(b"1 2");
     let start = LONGEST_READ as u32 + 1;
     let spans = [[start, 1], [start + 2, 1]];
-    let long = Stored::of(&long, &point, &spans);
-    let no_utf8 = Stored::of(b"\xff1\xc0\x80-2\xe4\xba", &point, &[[1, 1], [4, 2]]);
-    vec![
-        long.write(11),
-        long.check(),
-        no_utf8.write(11),
-        no_utf8.check(),
-    ]
+    let long = Lent::of(&long, &point, &spans);
+    let no_utf8 = Lent::of(b"\xff1\xc0\x80-2\xe4\xba", &point, &[[1, 1], [4, 2]]);
+    [long, no_utf8]
 }
 
 /// The largest records: every field as large as it may be, an output with no byte left.
@@ -582,15 +580,15 @@ pub fn largest() -> Vec<Case> {
     let spans: Vec<_> = (0..number_rows).map(|_| [last, 1]).collect();
     let mut text = vec![b'1'; MAX_TEXT - 1];
     text.push(b'2');
-    let mut stored = Stored::of(&text, &nodes, &spans);
-    let spare = MAX_OUTPUT - stored.length();
-    stored.rows.numbers[0] = 0;
-    stored.rows.numbers[1] = 1 + spare;
-    let full = stored.write(MAX_OUTPUT);
-    let short = stored.write(MAX_OUTPUT - 1);
-    let check = stored.check();
-    stored.rows.numbers[1] += 1;
-    vec![full, short, stored.write(MAX_OUTPUT), check]
+    let mut lent = Lent::of(&text, &nodes, &spans);
+    let spare = MAX_OUTPUT - lent.length();
+    lent.rows.numbers[0] = 0;
+    lent.rows.numbers[1] = 1 + spare;
+    let full = lent.write(MAX_OUTPUT);
+    let short = lent.write(MAX_OUTPUT - 1);
+    let check = lent.check();
+    lent.rows.numbers[1] += 1;
+    vec![full, short, lent.write(MAX_OUTPUT), check]
 }
 
 /// Bodies of records of these letters that have no answer: cut, or too large.
@@ -635,9 +633,9 @@ mod tests {
 
     #[test]
     fn each_store_breaks_its_clause() {
-        for (clause, stored) in broken() {
-            let broken = stores::tree(&stored.text, &stored.rows).err();
-            assert_eq!(broken, Some(clause), "{stored:?}");
+        for (clause, lent) in broken() {
+            let broken = stores::tree(&lent.text, &lent.rows).err();
+            assert_eq!(broken, Some(clause), "{lent:?}");
         }
     }
 

@@ -6,6 +6,9 @@ pub const MAX_TEXT: usize = 131_072;
 pub const MAX_SLICE: u32 = 98_304;
 pub const MAX_OUTPUT: u32 = 262_144;
 
+/// The version of the stored form that is asked for: a field of `S` and `L`.
+pub const STORED_VERSION: u32 = 1;
+
 /// The rows of a store, place by place: kind, dimension and parts of each node, start
 /// and length of each number.
 #[derive(Clone, Debug, Default, PartialEq, Eq)]
@@ -29,6 +32,11 @@ pub enum Request {
     Check { rows: Rows },
     /// `i`: infer_type.
     Infer,
+    /// `S`: the stored writer, lent these rows and an output of this length.
+    WriteStored { output: u32, rows: Rows },
+    /// `L`: the stored reader, lent two slices of these lengths; the text is the stored
+    /// bytes.
+    ReadStored { nodes: u32, numbers: u32 },
 }
 
 #[derive(Clone, Debug, PartialEq, Eq)]
@@ -46,6 +54,8 @@ impl Request {
             Request::Write { .. } => b'w',
             Request::Check { .. } => b's',
             Request::Infer => b'i',
+            Request::WriteStored { .. } => b'S',
+            Request::ReadStored { .. } => b'L',
         }
     }
 
@@ -59,6 +69,10 @@ impl Request {
             Request::Write { output, rows } => [vec![*output], rows.fields()].concat(),
             Request::Check { rows } => rows.fields(),
             Request::Infer => vec![],
+            Request::WriteStored { output, rows } => {
+                [vec![STORED_VERSION, *output], rows.fields()].concat()
+            }
+            Request::ReadStored { nodes, numbers } => vec![STORED_VERSION, *nodes, *numbers],
         }
     }
 }
@@ -170,6 +184,22 @@ mod tests {
         let places: [u32; 8] = [9, 3, 2, 1, 0, 1, 6, 258];
         let places = places.map(u32::to_le_bytes).concat();
         assert_eq!(stream, [&[34, 0, 0, 0, b'w'][..], &places, b"x"].concat());
+    }
+
+    #[test]
+    fn the_version_stands_before_the_other_fields() {
+        let rows = Rows {
+            nodes: vec![1, 0, 0],
+            numbers: vec![],
+        };
+        let write = Request::WriteStored { output: 15, rows };
+        let read = Request::ReadStored {
+            nodes: 3,
+            numbers: 2,
+        };
+        assert_eq!(write.fields(), [1, 15, 3, 0, 1, 0, 0]);
+        assert_eq!(read.fields(), [1, 3, 2]);
+        assert_eq!([write.letter(), read.letter()], *b"SL");
     }
 
     #[test]

@@ -40,7 +40,7 @@ loop-less : tie.Need-loop-less Inv-loop μ-loop
 loop-less c = search needs
 
 loop-again : tie.Need-loop-again Inv-loop μ-loop
-loop-again c = 
+loop-again c =
     let v = c .before .before .loop .inv in
     let b = c .shared-slice-known .given (c .before .before .loop .i) in
     (omega arith, kept-on _ _ _ _ (c .before .loop-test .taken) refl (b .fits) (v .1))

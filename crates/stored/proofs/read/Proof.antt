@@ -5,8 +5,7 @@ use Rattle.stored.proofs.read.Reads as reads
 use Rattle.stored.proofs.read.Lts as lts
 use Rattle.stored.proofs.reading.read_version.Reads as read-version-reads
 use Rattle.stored.proofs.version_1.Reads as version-1-reads
-use native.Mathlib.Omega.{arith}
-use Rattle.stored.proofs.Heads.{known-version1}
+use Rattle.stored.proofs.Known.{known-1}
 
 -- src/lib.rt:43:34
 version-1-requires : tie.Need-version-1-requires
@@ -14,7 +13,7 @@ version-1-requires c κs = search needs
 
 -- src/lib.rt:43:5
 read-version-requires : tie.Need-read-version-requires
-read-version-requires c κs = rw (c .before .before .version-1 .ensures) known-version1
+read-version-requires c κs = rw (c .before .before .version-1 .ensures) known-1
 
 -- src/lib.rt:40:1
 same-length : tie.Need-same-length

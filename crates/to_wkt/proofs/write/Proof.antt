@@ -18,7 +18,7 @@ same-length : tie.Need-same-length
 same-length c = search needs
 
 returns : tie.Need-returns
-returns c = said-ill _ _ _ (c .before .before .before .before .before .before .before .before .before .before .args .out .now) _ refl (no-walk _ _ _ (sym (c .before .before .before .before .before .are-rows .ensures) ∙ not-true _ (c .before .before .before .before .if1 .taken))) (c .before .before .refuse .ensures .0) (c .before .before .refuse .ensures .1)
+returns c = said-ill _ _ _ refl (no-walk _ _ _ (sym (c .before .before .before .before .before .are-rows .ensures) ∙ not-true _ (c .before .before .before .before .if1 .taken))) (c .before .before .refuse .ensures)
 
 put-rows-requires : tie.Need-put-rows-requires
 put-rows-requires c κs = search needs
@@ -30,7 +30,7 @@ same-length-2 : tie.Need-same-length-2
 same-length-2 c = search needs
 
 returns-2 : tie.Need-returns-2
-returns-2 c = said-ill _ _ _ _ _ (c .before .before .before .before .before .before .before .put-rows .kept .0) (treeless _ _ _ (sym (c .before .before .before .before .before .before .before .before .before .before .are-rows .ensures) ∙ not-false _ (c .before .before .before .before .before .before .before .before .before .if1 .left)) _ _ (c .before .before .before .before .before .before .before .put-rows .ensures) (c .before .before .before .before .if2 .taken)) (c .before .before .refuse2 .ensures .0) (c .before .before .refuse2 .ensures .1)
+returns-2 c = said-ill _ _ _ (c .before .before .before .before .before .before .before .put-rows .kept .0) (treeless _ _ _ (sym (c .before .before .before .before .before .before .before .before .before .before .are-rows .ensures) ∙ not-false _ (c .before .before .before .before .before .before .before .before .before .if1 .left)) _ _ (c .before .before .before .before .before .before .before .put-rows .ensures) (c .before .before .before .before .if2 .taken)) (c .before .before .refuse2 .ensures)
 
 refuse-requires-3 : tie.Need-refuse-requires-3
 refuse-requires-3 c κs = search needs
@@ -39,7 +39,7 @@ same-length-3 : tie.Need-same-length-3
 same-length-3 c = search needs
 
 returns-3 : tie.Need-returns-3
-returns-3 c = said-full (stands _ _ _ (sym (c .before .before .before .before .before .before .before .before .before .before .before .before .are-rows .ensures) ∙ not-false _ (c .before .before .before .before .before .before .before .before .before .before .before .if1 .left)) _ _ (c .before .before .before .before .before .before .before .before .before .put-rows .ensures) (c .before .before .before .before .before .before .if2 .left)) _ (c .before .before .before .before .before .before .before .before .before .put-rows .kept .0) (c .before .before .before .before .if3 .taken) (c .before .before .refuse3 .ensures .0) (c .before .before .refuse3 .ensures .1)
+returns-3 c = said-full (stands _ _ _ (sym (c .before .before .before .before .before .before .before .before .before .before .before .before .are-rows .ensures) ∙ not-false _ (c .before .before .before .before .before .before .before .before .before .before .before .if1 .left)) _ _ (c .before .before .before .before .before .before .before .before .before .put-rows .ensures) (c .before .before .before .before .before .before .if2 .left)) (c .before .before .before .before .before .before .before .before .before .put-rows .kept .0) (c .before .before .before .before .if3 .taken) (c .before .before .refuse3 .ensures)
 
 clear-requires : tie.Need-clear-requires
 clear-requires c κs = search needs
@@ -48,7 +48,7 @@ same-length-4 : tie.Need-same-length-4
 same-length-4 c = search needs
 
 returns-4 : tie.Need-returns-4
-returns-4 c = said-all (stands _ _ _ (sym (c .before .before .before .before .before .before .before .before .before .before .before .before .are-rows .ensures) ∙ not-false _ (c .before .before .before .before .before .before .before .before .before .before .before .if1 .left)) _ _ (c .before .before .before .before .before .before .before .before .before .put-rows .ensures) (c .before .before .before .before .before .before .if2 .left)) _ (c .before .before .before .before .before .before .before .before .before .put-rows .kept .0) (c .before .before .before .before .if3 .left) (c .before .before .clear .ensures)
+returns-4 c = said-all (stands _ _ _ (sym (c .before .before .before .before .before .before .before .before .before .before .before .before .are-rows .ensures) ∙ not-false _ (c .before .before .before .before .before .before .before .before .before .before .before .if1 .left)) _ _ (c .before .before .before .before .before .before .before .before .before .put-rows .ensures) (c .before .before .before .before .before .before .if2 .left)) (c .before .before .before .before .before .before .before .before .before .put-rows .kept .0) (c .before .before .before .before .if3 .left) (c .before .before .clear .ensures)
 
 pub write-spec : {M : Type 1} → statement M
 write-spec =

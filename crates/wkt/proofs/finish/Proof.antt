@@ -3,23 +3,13 @@
 use borrow.Author.Needs.{needs}
 use Rattle.wkt.proofs.finish.Statement.{statement}
 use Rattle.wkt.proofs.finish.Tie as tie
-use native.Mathlib.Omega.{arith}
 use Rattle.wkt.proofs.Returns.{finish-done, finish-refused, finish-stopped}
 
 enum-known-got : tie.Need-enum-known-got
 enum-known-got c = search needs
 
-mul-clear : tie.Need-mul-clear
-mul-clear c = omega (arith, (rw (c .before .before .got .given .1) at (c .before .before .before .before .before .before .pre)) .0)
-
-clear-requires : tie.Need-clear-requires
-clear-requires c κs = search needs
-
-mul-clear-2 : tie.Need-mul-clear-2
-mul-clear-2 c = omega (arith, (rw (c .before .before .before .before .before .before .got .given .1) at (c .before .before .before .before .before .before .before .before .before .before .pre)) .1)
-
-clear-requires-2 : tie.Need-clear-requires-2
-clear-requires-2 c κs = search needs
+accept-requires : tie.Need-accept-requires
+accept-requires c κs = search needs
 
 enum-known-got-2 : tie.Need-enum-known-got-2
 enum-known-got-2 c = search needs
@@ -40,7 +30,7 @@ same-length-2 : tie.Need-same-length-2
 same-length-2 c = search needs
 
 returns : tie.Need-returns
-returns c = finish-done (c .before .before .before .before .before .before .before .before .before .got .given .1) (c .before .before .before .before .before .before .before .before .before .before .before .before .before .pre) (c .before .before .before .before .before .before .clear .ensures) (c .before .before .clear2 .ensures)
+returns c = finish-done (c .before .before .before .before .before .before .before .before .got .given .1) (c .before .before .before .before .before .before .before .before .before .before .before .before .pre) (c .before .before .before .before .accept .ensures)
 
 same-length-3 : tie.Need-same-length-3
 same-length-3 c = search needs
@@ -65,10 +55,7 @@ finish-spec =
     tie.close
     (tie.spec
     enum-known-got
-    mul-clear
-    clear-requires
-    mul-clear-2
-    clear-requires-2
+    accept-requires
     enum-known-got-2
     refuse-requires
     enum-known-got-3

@@ -10,7 +10,7 @@ use denote.Ref.{now}
 use lib.ListN.{length}
 use Rattle.printing.specs.Printing.{buffer, putAllIn}
 use Rattle.explain.specs.Shown.{piecesFrom, pieces}
-use Rattle.explain.proofs.Turns.{next-after, next-within}
+use Rattle.line_places.proofs.Turns.{next-after, next-within}
 use Rattle.explain.proofs.ShownLaws.{part-start, part-on, part-end}
 
 abbrev Inv-loop : tie.InvT-loop
