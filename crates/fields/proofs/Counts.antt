@@ -107,9 +107,22 @@ kept-on bytes i count b h e l z =
     rw (z, t, count-snoc (take i bytes) b) (keep-on (countIn (take i bytes)) b l)
 
 -- four bytes say what fits
-pub kept-all : (bs : List ℕ) → All IsByte bs → length bs ≤ 4 → countIn bs % 2 ^ 32 ≡ countIn bs
-kept-all bs a h = mod-eq-of-lt (lt-of-lt-of-le (count-bound bs a) (pow-le-pow-right {n = byte} (lit< tt) h))
+four-fit : (bs : List ℕ) → All IsByte bs → length bs ≤ 4 → countIn bs < 2 ^ 32
+four-fit bs a h = lt-of-lt-of-le (count-bound bs a) (pow-le-pow-right {n = byte} (lit< tt) h)
 
--- the count that a part of lent bytes says
-pub count-read : (bytes : List ℕ) → ((i : ℕ) → getD bytes i 0 < byte) → (start end w : ℕ) → end - start ≡ w → w ≤ 4 → countIn (take (end - start) (drop start bytes)) % 2 ^ 32 ≡ countIn (take w (drop start bytes))
-count-read bytes all start end w e h = rw e (kept-all (take w (drop start bytes)) (all-take w (drop start bytes) (all-drop start bytes (all-bytes bytes all))) (simp length-take (omega arith)))
+pub kept-all : (bs : List ℕ) → All IsByte bs → length bs ≤ 4 → countIn bs % 2 ^ 32 ≡ countIn bs
+kept-all bs a h = mod-eq-of-lt (four-fit bs a h)
+
+-- ---- the count that a part of lent bytes says
+module _ (bytes : List ℕ) (all : (i : ℕ) → getD bytes i 0 < byte) where
+  part-bytes : (start w : ℕ) → All IsByte (take w (drop start bytes))
+  part-bytes start w = all-take w (drop start bytes) (all-drop start bytes (all-bytes bytes all))
+
+  part-short : (start w : ℕ) → w ≤ 4 → length (take w (drop start bytes)) ≤ 4
+  part-short start w h = simp length-take (omega arith)
+
+  pub count-fits : (start w : ℕ) → w ≤ 4 → countIn (take w (drop start bytes)) < 2 ^ 32
+  count-fits start w h = four-fit (take w (drop start bytes)) (part-bytes start w) (part-short start w h)
+
+  pub count-read : (start end w : ℕ) → end - start ≡ w → w ≤ 4 → countIn (take (end - start) (drop start bytes)) % 2 ^ 32 ≡ countIn (take w (drop start bytes))
+  count-read start end w e h = rw e (kept-all (take w (drop start bytes)) (part-bytes start w) (part-short start w h))

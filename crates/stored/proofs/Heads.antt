@@ -1,23 +1,23 @@
 -- Laws of the head: each of its tests, and what it tells.
 -- Assumes nothing.
 use mathlib.Core.Path.{_≡_, refl, sym, ap, _∙_}
-use mathlib.Core.Bool.{Bool, true, false, not, _&&_}
+use mathlib.Core.Bool.{Bool, true, false, cond, not, _&&_}
 use mathlib.Core.List.{List}
 use Prim.Native.Nat.{ℕ, _+_, _-_, _*_, _%_, _^_, _≤_, _<_}
 use native.Mathlib.Omega.{arith}
 use lib.Dec.{eqb, ltb}
 use lib.ListN.{length, getD, take, drop}
-use borrow.Author.Tests.{lt-ltb, le-ltb}
+use borrow.Author.Tests.{lt-ltb, le-ltb, ltb-false}
 use Rattle.refusals.specs.Refusals.{textTooLong, faultyField, unknownVersion}
 use Rattle.fields.specs.Counts.{byte, countIn}
 use Rattle.fields.specs.Fields.{isSized}
-use Rattle.fields.proofs.Counts.{count-read}
+use Rattle.fields.proofs.Counts.{count-read, count-fits}
 use Rattle.fields.proofs.Fields.{has-room, sized-field}
 use Rattle.stored.specs.declared.Version.{Version}
 use Rattle.stored.specs.declared.reading.Counts.{Counts}
 use Rattle.stored.specs.declared.reading.Head.the-variants.{Told, Refused}
-use Rattle.stored.specs.Form.{headTag, headSize, firstNode}
-use Rattle.stored.specs.Reading.{versionAt, countsAt, isOtherVersion, nodesTold, numbersTold, countsRead, headIn}
+use Rattle.stored.specs.Form.{Known, headTag, headSize, firstNode}
+use Rattle.stored.specs.Reading.{versionAt, countsAt, isOtherVersion, nodesTold, numbersTold, countsRead, headIn, Headed}
 
 -- a head of the right length lies in the bytes
 pub head-room : (w : ℕ) (bytes : List ℕ) → isSized headTag (headSize w) bytes 0 ≡ true → firstNode w ≤ length bytes
@@ -56,3 +56,30 @@ module _ (v : Version) (bytes : List ℕ) where
         pub head-told : isSized headTag (headSize (v .width)) bytes 0 ≡ true → n ≡ countIn (take (middle - countsAt) (drop countsAt bytes)) % 2 ^ 32 → m ≡ countIn (take (middle + v .width - middle) (drop middle bytes)) % 2 ^ 32 → Told (record { nodes = n; numbers = m }) ≡ headIn v bytes
         unfolding headIn
         head-told s e f = rw (le-ltb (v .limit) (length bytes) short, known, s, e, f, count-read bytes all countsAt middle (v .width) (omega arith) narrow, count-read bytes all middle (middle + v .width) (v .width) (omega arith) narrow)
+
+-- ---- what a head that was told says
+record Passed (v : Version) (bytes : List ℕ) (c : Counts) : Type 0 where
+  short : length bytes ≤ v .limit
+  sized : isSized headTag (headSize (v .width)) bytes 0 ≡ true
+  counts : countsRead (v .width) bytes ≡ c
+
+passed : (v : Version) (bytes : List ℕ) {c : Counts} → headIn v bytes ≡ Told c → Passed v bytes c
+unfolding headIn
+passed v bytes {c} e = go (ltb (v .limit) (length bytes)) refl (isOtherVersion v bytes) (isSized headTag (headSize (v .width)) bytes 0) refl e
+  where
+    go : (l : Bool) → ltb (v .limit) (length bytes) ≡ l → (o s : Bool) → isSized headTag (headSize (v .width)) bytes 0 ≡ s
+        → cond l (Refused textTooLong (v .limit)) (cond o (Refused unknownVersion versionAt) (cond s (Told (countsRead (v .width) bytes)) (Refused faultyField 0))) ≡ Told c → Passed v bytes c
+    go true x o s y z = let u : _≡_ {A = ℕ} 0 1 = cc in absurd (omega arith)
+    go false x true s y z = let u : _≡_ {A = ℕ} 0 1 = cc in absurd (omega arith)
+    go false x false false y z = let u : _≡_ {A = ℕ} 0 1 = cc in absurd (omega arith)
+    go false x false true y z = record { short = ltb-false (v .limit) (length bytes) x; sized = y; counts = cc }
+
+pub headed : {v : Version} {bytes : List ℕ} {c : Counts} → Known v → ((i : ℕ) → getD bytes i 0 < byte) → headIn v bytes ≡ Told c → Headed (v .width) bytes c
+headed {v} {bytes} {c} k all e =
+    let p = passed v bytes e in
+    record {
+      narrow = k .narrow;
+      short = omega (arith, p .short, k .limited);
+      told = head-room (v .width) bytes (p .sized);
+      counted = rw (← (p .counts)) (count-fits bytes all countsAt (v .width) (k .narrow))
+    }

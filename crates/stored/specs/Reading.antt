@@ -134,19 +134,19 @@ abbrev pub numbersSeen : List ℕ → ℕ → ℕ → Seen
 numbersSeen bytes first count = numbersWell bytes (numbersFrom bytes first count)
 
 -- what is known once the head has told its counts
-pub record Headed (v : Version) (bytes : List ℕ) (c : Counts) : Type 0 where
-  pub narrow : v .width ≤ 4
+pub record Headed (w : ℕ) (bytes : List ℕ) (c : Counts) : Type 0 where
+  pub narrow : w ≤ 4
   pub short : length bytes < 2 ^ 32
-  pub told : firstNode (v .width) ≤ length bytes
+  pub told : firstNode w ≤ length bytes
   pub counted : c .nodes < 2 ^ 32
 
 -- what its fields come to
-abbrev pub headedOf : Version → ℕ → ℕ → List ℕ → Counts → Outcome
-headedOf v N M bytes c = afterHead (v .width) N M bytes (head.Told c)
+abbrev pub headedOf : ℕ → ℕ → ℕ → List ℕ → Counts → Outcome
+headedOf w N M bytes c = afterHead w N M bytes (head.Told c)
 
 -- its node fields were seen, with this answer
-abbrev pub NodesSeen : Version → List ℕ → Counts → Bool → ℕ → Type 0
-NodesSeen v bytes c well middle = nodesSeen (v .width) bytes (firstNode (v .width)) (c .nodes) (c .numbers) ≡ seen.Whole well middle
+abbrev pub NodesSeen : ℕ → List ℕ → Counts → Bool → ℕ → Type 0
+NodesSeen w bytes c well middle = nodesSeen w bytes (firstNode w) (c .nodes) (c .numbers) ≡ seen.Whole well middle
 
 -- its number fields were seen, and are all well
 pub record NumbersGood (bytes : List ℕ) (middle count : ℕ) : Type 0 where

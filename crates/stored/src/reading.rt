@@ -204,8 +204,8 @@ fn fill(
     nodes: &mut [u32],
     numbers: &mut [u32],
 ) -> ReadAnswer
-    requires { ⌜ Headed v (now bytes) c × NodesSeen v (now bytes) c true middle × NumbersGood (now bytes) middle (c .numbers) ⌝ }
-    ensures { λ a. ⌜ Leaves (headedOf v (nodeRoom (now (nodes .entry))) (numberRoom (now (numbers .entry))) (now (bytes .entry)) c) (now (nodes .entry)) (now (numbers .entry)) a (now (nodes .exit)) (now (numbers .exit)) ⌝ }
+    requires { ⌜ Headed (v .width) (now bytes) c × NodesSeen (v .width) (now bytes) c true middle × NumbersGood (now bytes) middle (c .numbers) ⌝ }
+    ensures { λ a. ⌜ Leaves (headedOf (v .width) (nodeRoom (now (nodes .entry))) (numberRoom (now (numbers .entry))) (now (bytes .entry)) c) (now (nodes .entry)) (now (numbers .entry)) a (now (nodes .exit)) (now (numbers .exit)) ⌝ }
 {
     let first = COUNTS_AT + 2 * v.width;
     let room = store::node_room(nodes);
@@ -238,8 +238,8 @@ fn read_numbers(
     nodes: &mut [u32],
     numbers: &mut [u32],
 ) -> ReadAnswer
-    requires { ⌜ Headed v (now bytes) c × NodesSeen v (now bytes) c well middle ⌝ }
-    ensures { λ a. ⌜ Leaves (headedOf v (nodeRoom (now (nodes .entry))) (numberRoom (now (numbers .entry))) (now (bytes .entry)) c) (now (nodes .entry)) (now (numbers .entry)) a (now (nodes .exit)) (now (numbers .exit)) ⌝ }
+    requires { ⌜ Headed (v .width) (now bytes) c × NodesSeen (v .width) (now bytes) c well middle ⌝ }
+    ensures { λ a. ⌜ Leaves (headedOf (v .width) (nodeRoom (now (nodes .entry))) (numberRoom (now (numbers .entry))) (now (bytes .entry)) c) (now (nodes .entry)) (now (numbers .entry)) a (now (nodes .exit)) (now (numbers .exit)) ⌝ }
 {
     let seen = look_at_numbers(bytes, middle, c.numbers);
     match seen {
@@ -260,8 +260,8 @@ fn read_nodes(
     nodes: &mut [u32],
     numbers: &mut [u32],
 ) -> ReadAnswer
-    requires { ⌜ Headed v (now bytes) c ⌝ }
-    ensures { λ a. ⌜ Leaves (headedOf v (nodeRoom (now (nodes .entry))) (numberRoom (now (numbers .entry))) (now (bytes .entry)) c) (now (nodes .entry)) (now (numbers .entry)) a (now (nodes .exit)) (now (numbers .exit)) ⌝ }
+    requires { ⌜ Headed (v .width) (now bytes) c ⌝ }
+    ensures { λ a. ⌜ Leaves (headedOf (v .width) (nodeRoom (now (nodes .entry))) (numberRoom (now (numbers .entry))) (now (bytes .entry)) c) (now (nodes .entry)) (now (numbers .entry)) a (now (nodes .exit)) (now (numbers .exit)) ⌝ }
 {
     let first = COUNTS_AT + 2 * v.width;
     let seen = look_at_nodes(bytes, v.width, first, c.nodes, c.numbers);
