@@ -16,9 +16,10 @@ use Rattle.store.specs.declared.ReadAnswer.{ReadAnswer}
 use Rattle.store.specs.Rows.{Row, Span, flatRows, flatSpans}
 use Rattle.store.specs.Answers.{Outcome, filled, refused, Leaves}
 use Rattle.tree.specs.TreeIn.{spanTexts}
-use Rattle.shape.specs.Nodes.{above, meets}
+use Rattle.lists.specs.Options.{isSome}
+use Rattle.nodes.specs.Nodes.{above, meets}
 use Rattle.shape.specs.Numbers.{isNumber}
-use Rattle.shape.specs.Store.{isSome, wellFormed}
+use Rattle.shape.specs.Store.{wellFormed}
 use Rattle.shape.proofs.Slices.{Own, well-by-rows}
 use Rattle.fields.specs.Fields.{headLength, lengthIn, contentEnd, contentIn, isField, isSized}
 use Rattle.fields.proofs.Fields.{has-room, sized-field}
