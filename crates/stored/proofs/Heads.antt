@@ -81,5 +81,5 @@ headed {v} {bytes} {c} k all e =
       narrow = k .narrow;
       short = omega (arith, p .short, k .limited);
       told = head-room (v .width) bytes (p .sized);
-      counted = rw (← (p .counts)) (count-fits bytes all countsAt (v .width) (k .narrow))
+      counted = rw (← (p .counts)) (count-fits bytes all countsAt (v .width) (k .narrow));
     }

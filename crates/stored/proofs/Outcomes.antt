@@ -177,7 +177,7 @@ fields-good {w} {bytes} {c} {middle} e g =
       end = ss .end;
       nodes = rs .are;
       numbers = ss .are;
-      outcome = after-numbers w bytes c e (g .seen)
+      outcome = after-numbers w bytes c e (g .seen);
     }
 
 -- where node fields end
