@@ -30,14 +30,14 @@ reads-one x y = (x .rows .nodes ∙ sym (y .rows .nodes), x .rows .numbers ∙ s
 pub writes-one : {o : Output} {room : ℕ} {out′ out″ answer answer′ : List ℕ} → WritesInto o room out′ answer → WritesInto o room out″ answer′ → (out′ ≡ out″) × (answer ≡ answer′)
 writes-one x y = (x .bytes .bytes ∙ sym (y .bytes .bytes), x .places ∙ sym (y .places))
 
-module _ {text ns ms ns′ ns″ ms′ ms″ answer answer′ : List ℕ} where
+module _ (text ns ms : List ℕ) {ns′ ns″ ms′ ms″ answer answer′ : List ℕ} where
   pub doorhollow_read-one : ReadsInto (outcomeOf (reading (nodeRoom ns) (numberRoom ms) text)) ns ms ns′ ms′ answer → ReadsInto (outcomeOf (reading (nodeRoom ns) (numberRoom ms) text)) ns ms ns″ ms″ answer′ → (ns′ ≡ ns″) × (ms′ ≡ ms″) × (answer ≡ answer′)
   doorhollow_read-one = reads-one
 
   pub doorhollow_read_stored_1-one : ReadsInto (readingOf version1 (nodeRoom ns) (numberRoom ms) text) ns ms ns′ ms′ answer → ReadsInto (readingOf version1 (nodeRoom ns) (numberRoom ms) text) ns ms ns″ ms″ answer′ → (ns′ ≡ ns″) × (ms′ ≡ ms″) × (answer ≡ answer′)
   doorhollow_read_stored_1-one = reads-one
 
-module _ {text nodes numbers out out′ out″ answer answer′ : List ℕ} where
+module _ (text nodes numbers out : List ℕ) {out′ out″ answer answer′ : List ℕ} where
   pub doorhollow_write-one : WritesInto (outputOf (storeText text nodes numbers)) (length out) out′ answer → WritesInto (outputOf (storeText text nodes numbers)) (length out) out″ answer′ → (out′ ≡ out″) × (answer ≡ answer′)
   doorhollow_write-one = writes-one
 
