@@ -3,6 +3,7 @@
 use libc::STDIN_FILENO;
 use messages::complain;
 use printing::flush;
+use printing::least;
 use row_lines::put_lines;
 use store::NODE_WIDTH;
 use store::NUMBER_WIDTH;
@@ -21,20 +22,28 @@ const NUMBER_PLACES: usize = MOST_ROWS * NUMBER_WIDTH;
 
 const OUTPUT_BYTES: usize = 65_536;
 
-// The buffers come as arrays, whose types tell their lengths.
-fn list_kept(
-    data: &[u8],
-    nodes: &mut [u32; NODE_PLACES],
-    numbers: &mut [u32; NUMBER_PLACES],
-    out: &mut [u8; OUTPUT_BYTES],
-) {
-    let read = stored::read(data, nodes, numbers);
+// Lists the tree whose stored bytes are the first `count` of the input.
+fn list_kept(input: &[u8], count: usize, nodes: &mut [u32], numbers: &mut [u32], out: &mut [u8]) {
+    let end = least(count, input.len());
+    let bytes = &input[0..end];
+    let read = stored::read(bytes, nodes, numbers);
     if read.number != 0 {
         complain(&NAME, read.number, read.place);
         return;
     }
-    let end = put_lines(out, 0, read, data, nodes, numbers);
-    flush(out, end);
+    let full = put_lines(out, 0, read, bytes, nodes, numbers);
+    flush(out, full);
+}
+
+// The buffers come as arrays, whose types tell their lengths: lent as slices, the proof of `main` would have to count them out.
+fn run(
+    input: &mut [u8; INPUT_BYTES],
+    nodes: &mut [u32; NODE_PLACES],
+    numbers: &mut [u32; NUMBER_PLACES],
+    out: &mut [u8; OUTPUT_BYTES],
+) {
+    let count = io::read_full(STDIN_FILENO, input);
+    list_kept(input, count, nodes, numbers, out);
 }
 
 fn main() {
@@ -42,6 +51,5 @@ fn main() {
     let mut nodes = [0u32; NODE_PLACES];
     let mut numbers = [0u32; NUMBER_PLACES];
     let mut out = [0u8; OUTPUT_BYTES];
-    let count = io::read_full(STDIN_FILENO, &mut input);
-    list_kept(&input[..count], &mut nodes, &mut numbers, &mut out);
+    run(&mut input, &mut nodes, &mut numbers, &mut out);
 }
