@@ -11,8 +11,7 @@ use lib.Dec.{ltb}
 use lib.ListN.{length, getD, take, drop}
 use borrow.Author.Tests.{lt-ltb, le-ltb}
 use Rattle.lists.specs.Lists.{every}
-use Rattle.number.specs.Lexeme.{isLexeme, isPlain}
-use Rattle.number.proofs.Plain.{plain-lexeme}
+use Rattle.number.specs.Lexeme.{isLexeme}
 use Rattle.store.specs.Rows.{Row, row, Span}
 use Rattle.tree.specs.TreeIn.{spanTexts}
 use Rattle.lists.specs.Options.{isSome}
@@ -83,9 +82,6 @@ module _ {bytes : List ℕ} {start count : ℕ} {good : Bool} {at i : ℕ} (l : 
             within = omega arith;
             same = rw (n, ← its-text, ← (b .1)) (sym (numbers-one bytes good at (numbersFrom bytes (contentEnd bytes at) (count - (i + 1)))) ∙ rw (turn-on (isField numberTag bytes) (spanTold bytes) (contentEnd bytes) count i at h (b .0)) at (l .same));
           }
-
-      pub number-plain : isPlain (take (end - (at + headLength)) (drop (at + headLength) bytes)) ≡ true → LookingNumbers bytes start count good end (i + 1)
-      number-plain p = number-on (rw (plain-lexeme (take (end - (at + headLength)) (drop (at + headLength) bytes)) p) (sym (and-true good)))
 
       pub number-lexeme : {lexeme : Bool} → lexeme ≡ isLexeme (take (end - (at + headLength)) (drop (at + headLength) bytes)) → LookingNumbers bytes start count (good && lexeme) end (i + 1)
       number-lexeme p = number-on (ap (λ b. good && b) p)

@@ -120,10 +120,7 @@ fn look_at_numbers(bytes: &[u8], first: usize, count: usize) -> Seen
             return Seen::Faulty(at);
         };
         let start = at + HEAD;
-        let text = &bytes[start..end];
-        if !number::is_plain(text) {
-            good = good & number::is_lexeme(text);
-        }
+        good = good & short_numbers::front_is_lexeme(&bytes[start..], end - start);
         at = end;
         i += 1;
     }

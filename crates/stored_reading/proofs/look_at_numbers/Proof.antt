@@ -1,17 +1,13 @@
-use Rattle.stored_reading.proofs.look_at_numbers.Statement.{statement}
-use Rattle.stored_reading.proofs.look_at_numbers.Tie as tie
-use Rattle.stored_reading.proofs.look_at_numbers.Reads as reads
-use Rattle.stored_reading.proofs.look_at_numbers.Lts as lts
-use Rattle.fields.proofs.field_at.Reads as field-at-reads
-use Rattle.number.proofs.is_lexeme.Reads as is-lexeme-reads
-use Rattle.number.proofs.is_plain.Reads as is-plain-reads
+-- `stored_reading::look_at_numbers` meets its contract.
+-- Assumes nothing.
 use mathlib.Core.Path.{_≡_, sym, _∙_}
-use mathlib.Core.Logic.{⊎-elim}
-use Prim.Native.Nat.{_+_, _-_, _≤_}
+use Prim.Native.Nat.{_+_, _-_}
 use native.Mathlib.Omega.{arith}
 use borrow.Author.Needs.{needs}
-use borrow.Author.Tests.{not-true, not-false}
-use Rattle.stored_reading.proofs.Looks.{LookingNumbers, numbers-begin, number-faulty, number-room, number-plain, number-lexeme, numbers-extra, numbers-whole}
+use Rattle.scan.proofs.Front.{tail-part}
+use Rattle.stored_reading.proofs.Looks.{LookingNumbers, numbers-begin, number-faulty, number-room, number-lexeme, numbers-extra, numbers-whole}
+use Rattle.stored_reading.proofs.look_at_numbers.Statement.{statement}
+use Rattle.stored_reading.proofs.look_at_numbers.Tie as tie
 
 abbrev Inv-loop : tie.InvT-loop
 Inv-loop bytes first count good₀ at₀ i₀ good at i = LookingNumbers bytes first count good at i
@@ -37,20 +33,20 @@ returns c = number-faulty (c .before .before .before .before .loop .inv) (c .bef
 add-start : tie.Need-add-start Inv-loop μ-loop
 add-start c = omega (arith, number-room (c .before .before .before .before .before .loop .inv) (c .before .before .before .before .loop-test .taken) (sym (c .before .before .before .field-at .ensures) ∙ c .before .found .given .1))
 
-sub-text : tie.Need-sub-text Inv-loop μ-loop
-sub-text c = omega (arith, number-room (c .before .before .before .before .before .loop .inv) (c .before .before .before .before .loop-test .taken) (sym (c .before .before .before .field-at .ensures) ∙ c .before .found .given .1))
+sub-front-is-lexeme : tie.Need-sub-front-is-lexeme Inv-loop μ-loop
+sub-front-is-lexeme c = omega (arith, number-room (c .before .before .before .before .before .loop .inv) (c .before .before .before .before .loop-test .taken) (sym (c .before .before .before .field-at .ensures) ∙ c .before .found .given .1))
 
-part-text-start : tie.Need-part-text-start Inv-loop μ-loop
-part-text-start c = omega (arith, number-room (c .before .before .before .before .before .loop .inv) (c .before .before .before .before .loop-test .taken) (sym (c .before .before .before .field-at .ensures) ∙ c .before .found .given .1))
+part-front-is-lexeme-start : tie.Need-part-front-is-lexeme-start Inv-loop μ-loop
+part-front-is-lexeme-start c = omega (arith, number-room (c .before .before .before .before .before .loop .inv) (c .before .before .before .before .loop-test .taken) (sym (c .before .before .before .field-at .ensures) ∙ c .before .found .given .1))
 
-part-text-end : tie.Need-part-text-end Inv-loop μ-loop
-part-text-end c = omega (arith, number-room (c .before .before .before .before .before .loop .inv) (c .before .before .before .before .loop-test .taken) (sym (c .before .before .before .field-at .ensures) ∙ c .before .found .given .1))
+part-front-is-lexeme-end : tie.Need-part-front-is-lexeme-end Inv-loop μ-loop
+part-front-is-lexeme-end c = omega (arith, number-room (c .before .before .before .before .before .loop .inv) (c .before .before .before .before .loop-test .taken) (sym (c .before .before .before .field-at .ensures) ∙ c .before .found .given .1))
 
-is-plain-requires : tie.Need-is-plain-requires Inv-loop μ-loop
-is-plain-requires c κs = search needs
+sub-front-is-lexeme-2 : tie.Need-sub-front-is-lexeme-2 Inv-loop μ-loop
+sub-front-is-lexeme-2 c = omega (arith, number-room (c .before .before .before .before .before .before .loop .inv) (c .before .before .before .before .before .loop-test .taken) (sym (c .before .before .before .before .field-at .ensures) ∙ c .before .before .found .given .1))
 
-is-lexeme-requires : tie.Need-is-lexeme-requires Inv-loop μ-loop
-is-lexeme-requires c κs = search needs
+front-is-lexeme-requires : tie.Need-front-is-lexeme-requires Inv-loop μ-loop
+front-is-lexeme-requires c κs = search needs
 
 add-i : tie.Need-add-i Inv-loop μ-loop
 add-i c = search needs
@@ -60,16 +56,14 @@ loop-less c = search needs
 
 loop-again : tie.Need-loop-again Inv-loop μ-loop
 loop-again c =
-    let e = sym (c .before .before .before .before .before .before .field-at .ensures) ∙ c .before .before .before .before .found .given .1 in
-    let inv = c .before .before .before .before .before .before .before .before .loop .inv in
-    let test = c .before .before .before .before .before .before .before .loop-test .taken in
-    ⊎-elim (λ x. rw (x .2) (number-lexeme inv test e (x .1 .ensures))) (λ x. rw (x .1) (number-plain inv test e (sym (c .before .is-plain .ensures) ∙ not-false _ (x .0 .left)))) (c .if1 .came)
+    let e = sym (c .before .before .before .before .before .field-at .ensures) ∙ c .before .before .before .found .given .1 in
+    number-lexeme (c .before .before .before .before .before .before .before .loop .inv) (c .before .before .before .before .before .before .loop-test .taken) e (c .front-is-lexeme .ensures ∙ rw (tail-part (c .before .before .before .before .before .before .before .loop .at + 3) (c .before .before .before .before .before .before .before .before .before .args .bytes .now)))
 
 returns-2 : tie.Need-returns-2 Inv-loop μ-loop
-returns-2 c = numbers-extra (c .before .before .loop .inv) (c .before .loop-test .left) (c .if2 .taken)
+returns-2 c = numbers-extra (c .before .before .loop .inv) (c .before .loop-test .left) (c .if1 .taken)
 
 returns-3 : tie.Need-returns-3 Inv-loop μ-loop
-returns-3 c = numbers-whole (c .before .before .loop .inv) (c .before .loop-test .left) (c .if2 .left)
+returns-3 c = numbers-whole (c .before .before .loop .inv) (c .before .loop-test .left) (c .if1 .left)
 
 pub look-at-numbers-spec : {M : Type 1} → statement M
 look-at-numbers-spec =
@@ -83,11 +77,11 @@ look-at-numbers-spec =
     enum-told
     returns
     add-start
-    sub-text
-    part-text-start
-    part-text-end
-    is-plain-requires
-    is-lexeme-requires
+    sub-front-is-lexeme
+    part-front-is-lexeme-start
+    part-front-is-lexeme-end
+    sub-front-is-lexeme-2
+    front-is-lexeme-requires
     add-i
     loop-less
     loop-again
