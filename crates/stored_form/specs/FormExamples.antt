@@ -49,6 +49,10 @@ all : ℕ
 unfolding flatMap every countBytes field headField nodeField numberField storedRows fitsRows storedOf begins afterOne afterAll isNil sameWord isNamed isDigits isExponent isDecimal isUnsigned isLexeme cell firsts rowsIn spansIn flatRows width rowsWith onFront asA times findText findRow exactlyOne atMostOne findParts findNode whole areNumbers areWhole treeOf
 all = 0
 
+-- "version 1"; "two bytes each", so counts up to 65,535; "over 1,048,576 bytes"
+version-1 : (version1 .number ≡ 1) × (version1 .width ≡ 2) × (version1 .largest ≡ 65535) × (version1 .limit ≡ 1048576)
+version-1 = (refl, refl, refl, refl)
+
 -- a head, then a node, then its numbers
 a-point : storedRows version1 point (one ∷ two ∷ []) ≡ 1 ∷ 0 ∷ 5 ∷ 1 ∷ 0 ∷ 1 ∷ 0 ∷ 2 ∷ 2 ∷ 0 ∷ 4 ∷ 1 ∷ 0 ∷ 0 ∷ 1 ∷ 3 ∷ 0 ∷ 1 ∷ 49 ∷ 3 ∷ 0 ∷ 1 ∷ 50 ∷ []
 unfolding all
