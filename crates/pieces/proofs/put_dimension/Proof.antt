@@ -1,12 +1,12 @@
--- `to_wkt::put_dimension` meets its contract: a dimension at a time.
+-- `pieces::put_dimension` meets its contract: a dimension at a time.
 -- Assumes nothing.
 use borrow.Author.Needs.{needs}
 use borrow.Author.Tests.{eq-eqb, ne-eqb}
 use Rattle.pen.proofs.Puts.{emits, emits-then, emits-as, owes-same}
 use Rattle.canonical_text.specs.Canonical.{putDimension, stringOf}
-use Rattle.to_wkt.proofs.Canonical.{no-ending}
-use Rattle.to_wkt.proofs.put_dimension.Statement.{statement}
-use Rattle.to_wkt.proofs.put_dimension.Tie as tie
+use Rattle.pieces.proofs.Pieces.{no-ending}
+use Rattle.pieces.proofs.put_dimension.Statement.{statement}
+use Rattle.pieces.proofs.put_dimension.Tie as tie
 
 returns : tie.Need-returns
 unfolding putDimension

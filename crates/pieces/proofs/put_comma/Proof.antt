@@ -1,11 +1,11 @@
--- `to_wkt::put_comma` meets its contract: by which child it is.
+-- `pieces::put_comma` meets its contract: by which child it is.
 -- Assumes nothing.
 use borrow.Author.Needs.{needs}
 use borrow.Author.Tests.{eq-eqb, ne-eqb}
 use Rattle.pen.proofs.Puts.{emits, emits-as, owes-same}
-use Rattle.to_wkt.specs.Canonical.{putComma}
-use Rattle.to_wkt.proofs.put_comma.Statement.{statement}
-use Rattle.to_wkt.proofs.put_comma.Tie as tie
+use Rattle.pieces.specs.Pieces.{putComma}
+use Rattle.pieces.proofs.put_comma.Statement.{statement}
+use Rattle.pieces.proofs.put_comma.Tie as tie
 
 returns : tie.Need-returns
 unfolding putComma

@@ -1,12 +1,12 @@
--- `to_wkt::put_name` meets its contract: a kind at a time.
+-- `pieces::put_name` meets its contract: a kind at a time.
 -- Assumes nothing.
 use borrow.Author.Needs.{needs}
 use Rattle.pen.proofs.Puts.{emits, emits-as, owes-same}
 use Rattle.canonical_text.specs.Canonical.{stringOf}
-use Rattle.to_wkt.specs.Canonical.{putName}
-use Rattle.to_wkt.proofs.Canonical.{no-name}
-use Rattle.to_wkt.proofs.put_name.Statement.{statement}
-use Rattle.to_wkt.proofs.put_name.Tie as tie
+use Rattle.pieces.specs.Pieces.{putName}
+use Rattle.pieces.proofs.Pieces.{no-name}
+use Rattle.pieces.proofs.put_name.Statement.{statement}
+use Rattle.pieces.proofs.put_name.Tie as tie
 
 slice-aggregate-put : tie.Need-slice-aggregate-put
 slice-aggregate-put c = search needs

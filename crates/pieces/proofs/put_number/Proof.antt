@@ -1,10 +1,10 @@
--- `to_wkt::put_number` meets its contract: the byte before it, and the number's text, with the plus or without.
+-- `pieces::put_number` meets its contract: the byte before it, and the number's text, with the plus or without.
 -- Assumes nothing.
 use borrow.Author.Needs.{needs}
 use Rattle.pen.proofs.Puts.{emits, emits-then, emits-as}
-use Rattle.to_wkt.proofs.Canonical.{number-plus, number-bare}
-use Rattle.to_wkt.proofs.put_number.Statement.{statement}
-use Rattle.to_wkt.proofs.put_number.Tie as tie
+use Rattle.pieces.proofs.Pieces.{number-plus, number-bare}
+use Rattle.pieces.proofs.put_number.Statement.{statement}
+use Rattle.pieces.proofs.put_number.Tie as tie
 
 number-text-requires : tie.Need-number-text-requires
 number-text-requires c κs = search needs

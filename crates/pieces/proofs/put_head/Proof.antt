@@ -1,12 +1,12 @@
--- `to_wkt::put_head` meets its contract: name, dimension and blank, one after the other.
+-- `pieces::put_head` meets its contract: name, dimension and blank, one after the other.
 -- Assumes nothing.
 use mathlib.Core.Path.{sym, _∙_}
 use borrow.Author.Needs.{needs}
 use borrow.Author.Tests.{eq-eqb, ne-eqb, not-true, not-false}
 use Rattle.pen.proofs.Puts.{emits, emits-then, emits-as, owes-same}
-use Rattle.to_wkt.specs.Canonical.{putHead}
-use Rattle.to_wkt.proofs.put_head.Statement.{statement}
-use Rattle.to_wkt.proofs.put_head.Tie as tie
+use Rattle.pieces.specs.Pieces.{putHead}
+use Rattle.pieces.proofs.put_head.Statement.{statement}
+use Rattle.pieces.proofs.put_head.Tie as tie
 
 is-free-requires : tie.Need-is-free-requires
 is-free-requires c κs = search needs
