@@ -1,58 +1,119 @@
--- Laws of the pieces of a canonical text, a test at a time.
+-- Pieces that are put one after the other: together they are the canonical text of what is put.
 -- Assumes nothing.
-use mathlib.Core.Path.{_≡_, refl, ap, sym, _∙_}
-use mathlib.Core.Bool.{Bool, true, false, _||_}
+use mathlib.Core.Path.{_≡_, refl, ap, _∙_}
+use mathlib.Core.Bool.{Bool, true, false, cond, not}
 use mathlib.Core.List.{List, [], _∷_, _++_}
-use Prim.Native.Nat.{ℕ, _≤_, _<_}
-use native.Mathlib.Omega.{arith}
-use borrow.Author.Tests.{lt-leb, ne-eqb}
-use lib.ListN.{length, getD}
-use Rattle.scan.specs.Bytes.{plus, isPlus}
+use Prim.Native.Nat.{ℕ}
+use lib.Dec.{eqb}
+use Rattle.scan.specs.Bytes.{space, comma, plus}
 use Rattle.scan.specs.Front.{begins}
-use Rattle.names.specs.Letters.{isLetter}
+use Rattle.kinds.specs.Kinds.{dimXY}
 use Rattle.names.specs.Names.{names, endings}
+use Rattle.canonical_text.specs.Canonical.{needsPlus, spell, stringOf, putDimension}
+use Rattle.nodes.specs.declared.Visit.{Visit}
+use Rattle.nodes.specs.Nodes.{isFree}
 use Rattle.shape.specs.Numbers.{textAt}
-use Rattle.canonical_text.specs.Canonical.{needsPlus, spell, stringOf}
-use Rattle.pieces.specs.Pieces.{putNumber}
+use Rattle.pen.specs.declared.Pen.{Pen}
+use Rattle.pen.specs.Pen.{penAfter, outAfter, Puts, Emits}
+use Rattle.pen.proofs.Puts.{emits, emits-then, emits-as, owes-same}
+use Rattle.pieces.specs.Canonical.{putNumber, putName, putComma, putHead}
+use Rattle.pieces.specs.Pieces.{penAfterEach, outAfterEach, PutsEach, numberPieces, wordPieces, namePieces, dimensionPieces, commaPieces, headPieces}
 
--- ---- numbers
-pub plus-none : (w : List ℕ) → length w ≡ 0 → false ≡ begins needsPlus w
-unfolding begins
-plus-none [] e = refl
-plus-none (b ∷ w) e = absurd (omega arith)
+-- ---- pieces put one after the other
+pub puts-none : (p : Pen) (out : List ℕ) → PutsEach [] p out p out
+unfolding penAfterEach outAfterEach
+puts-none p out = record { stands = refl; bytes = refl }
 
-pub plus-some : (w : List ℕ) → (length w ≡ 0 → ⊥) → needsPlus (getD w 0 0) ≡ begins needsPlus w
-unfolding begins
-plus-some [] e = absurd (e refl)
-plus-some (b ∷ w) e = refl
+module _ {p q r : Pen} {out out₁ out₂ : List ℕ} where
+  pub puts-on : {x : List ℕ} {xs : List (List ℕ)} → Puts x p out q out₁ → PutsEach xs q out₁ r out₂ → PutsEach (x ∷ xs) p out r out₂
+  unfolding penAfterEach outAfterEach
+  puts-on a b = record { stands = rw (← a .stands, ← a .bytes) (b .stands); bytes = rw (← a .stands, ← a .bytes) (b .bytes) }
 
--- no byte before the letters is one, and no letter is a plus
-module _ (w : List ℕ) (some : length w ≡ 0 → ⊥) where
-  pub plus-low : getD w 0 0 < 65 → isPlus (getD w 0 0) ≡ begins needsPlus w
-  plus-low h = sym (or-false (isPlus (getD w 0 0))) ∙ sym (ap (λ b. isPlus (getD w 0 0) || b) (rw (lt-leb 97 (getD w 0 0) (omega arith), lt-leb 65 (getD w 0 0) h))) ∙ plus-some w some
-    where
-      or-false : (b : Bool) → (b || false) ≡ b
-      or-false true = refl
-      or-false false = refl
+-- one
+pub puts-one : {x : List ℕ} {p r : Pen} {out out' : List ℕ} → Puts x p out r out' → PutsEach (x ∷ []) p out r out'
+puts-one a = puts-on a (puts-none _ _)
 
-  pub plus-high : 65 ≤ getD w 0 0 → isLetter (getD w 0 0) ≡ begins needsPlus w
-  plus-high h = rw (ne-eqb (getD w 0 0) 43 (λ e. omega arith)) at (plus-some w some)
+-- those of one and then of another
+pub puts-then : {xs ys : List (List ℕ)} {p q r : Pen} {out out₁ out₂ : List ℕ} → PutsEach xs p out q out₁ → PutsEach ys q out₁ r out₂ → PutsEach (xs ++ ys) p out r out₂
+unfolding penAfterEach outAfterEach
+puts-then {xs} {ys} {p} {q} {r} {out} {out₁} {out₂} a b = go xs p out a
+  where
+    go : (xs : List (List ℕ)) (p : Pen) (out : List ℕ) → PutsEach xs p out q out₁ → PutsEach (xs ++ ys) p out r out₂
+    go [] p out a = rw (← a .stands, ← a .bytes) b
+    go (x ∷ xs) p out a =
+        let n = go xs (penAfter p out x) (outAfter p out x) (record { stands = a .stands; bytes = a .bytes }) in
+        record { stands = n .stands; bytes = n .bytes }
 
-module _ (text numbers : List ℕ) (i : ℕ) (lead : ℕ) {w : List ℕ} (is : w ≡ textAt text numbers i) {b : Bool} (t : b ≡ begins needsPlus w) where
-  pub number-plus : b ≡ true → (rest : List ℕ) → lead ∷ putNumber text numbers i rest ≡ lead ∷ plus ∷ (w ++ rest)
-  unfolding putNumber spell
-  number-plus e rest = rw (← is, ← t, e)
+-- the same pieces, said otherwise
+pub puts-as : {xs ys : List (List ℕ)} {p r : Pen} {out out' : List ℕ} → PutsEach ys p out r out' → xs ≡ ys → PutsEach xs p out r out'
+puts-as a e = rw e a
 
-  pub number-bare : b ≡ false → (rest : List ℕ) → lead ∷ putNumber text numbers i rest ≡ lead ∷ (w ++ rest)
-  unfolding putNumber spell
-  number-bare e rest = rw (← is, ← t, e)
+-- ---- the text that they are
+putEach : List (List ℕ) → List ℕ → List ℕ
+putEach [] rest = rest
+putEach (x ∷ xs) rest = x ++ putEach xs rest
 
--- ---- names of no kind and no dimension
-module _ (k : ℕ) where
-  pub no-ending : (k ≡ 0 → ⊥) → (k ≡ 1 → ⊥) → (k ≡ 2 → ⊥) → (k ≡ 3 → ⊥) → stringOf endings k ≡ []
-  unfolding stringOf
-  no-ending a b d e = rw (ne-eqb k 0 a, ne-eqb k 1 b, ne-eqb k 2 d, ne-eqb k 3 e)
+each-emits : (xs : List (List ℕ)) {p r : Pen} {out out' : List ℕ} → PutsEach xs p out r out' → Emits (putEach xs) p out r out'
+unfolding penAfterEach outAfterEach putEach
+each-emits [] a = rw (a .stands, a .bytes) (owes-same _ _ _)
+each-emits (x ∷ xs) a = emits-then (emits (record { stands = refl; bytes = refl })) (each-emits xs (record { stands = a .stands; bytes = a .bytes }))
 
-  pub no-name : (k ≡ 1 → ⊥) → (k ≡ 2 → ⊥) → (k ≡ 3 → ⊥) → (k ≡ 4 → ⊥) → (k ≡ 5 → ⊥) → (k ≡ 6 → ⊥) → (k ≡ 7 → ⊥) → stringOf names k ≡ []
-  unfolding stringOf
-  no-name a b d e f g h = rw (ne-eqb k 1 a, ne-eqb k 2 b, ne-eqb k 3 d, ne-eqb k 4 e, ne-eqb k 5 f, ne-eqb k 6 g, ne-eqb k 7 h)
+each-both : (xs ys : List (List ℕ)) (rest : List ℕ) → putEach (xs ++ ys) rest ≡ putEach xs (putEach ys rest)
+unfolding putEach
+each-both [] ys rest = refl
+each-both (x ∷ xs) ys rest = ap (λ l. x ++ l) (each-both xs ys rest)
+
+word-is : (w rest : List ℕ) → w ++ rest ≡ putEach (wordPieces w) rest
+unfolding putEach wordPieces
+word-is [] rest = refl
+word-is (b ∷ w) rest = refl
+
+number-is : (lead : ℕ) (w rest : List ℕ) → lead ∷ (spell w ++ rest) ≡ putEach (numberPieces lead w) rest
+unfolding putEach spell numberPieces
+number-is lead w rest = go (begins needsPlus w)
+  where
+    go : (b : Bool) → lead ∷ (cond b (plus ∷ w) w ++ rest) ≡ putEach (cond b ((lead ∷ []) ∷ (plus ∷ w) ∷ []) ((lead ∷ w) ∷ [])) rest
+    go true = refl
+    go false = refl
+
+dimension-is : (d : ℕ) (rest : List ℕ) → putDimension d rest ≡ putEach (dimensionPieces d) rest
+unfolding putEach putDimension dimensionPieces
+dimension-is d rest = go (eqb d dimXY)
+  where
+    go : (b : Bool) → cond b rest (space ∷ stringOf endings d ++ rest) ≡ putEach (cond b [] ((space ∷ []) ∷ wordPieces (stringOf endings d))) rest
+    go true = refl
+    go false = ap (λ l. space ∷ l) (word-is (stringOf endings d) rest)
+
+comma-is : (v : Visit) (rest : List ℕ) → putComma v rest ≡ putEach (commaPieces v) rest
+unfolding putEach putComma commaPieces
+comma-is v rest = go (eqb (v .parent .next) 0)
+  where
+    go : (b : Bool) → cond b rest (comma ∷ rest) ≡ putEach (cond b [] ((comma ∷ []) ∷ [])) rest
+    go true = refl
+    go false = refl
+
+head-is : (v : Visit) (rest : List ℕ) → putHead v rest ≡ putEach (headPieces v) rest
+unfolding putEach putHead putName headPieces namePieces
+head-is v rest = go (not (isFree (v .parent .kind))) (eqb (v .parts) 0)
+  where
+    space-is : (b : Bool) → cond b (space ∷ rest) rest ≡ putEach (cond b ((space ∷ []) ∷ []) []) rest
+    space-is true = refl
+    space-is false = refl
+
+    go : (f b : Bool) → cond f rest (putName (v .kind) (putDimension (v .dimension) (cond b (space ∷ rest) rest))) ≡ putEach (cond f [] (namePieces (v .kind) ++ (dimensionPieces (v .dimension) ++ cond b ((space ∷ []) ∷ []) []))) rest
+    go true b = refl
+    go false b =
+        rw (each-both (namePieces (v .kind)) (dimensionPieces (v .dimension) ++ cond b ((space ∷ []) ∷ []) []) rest, each-both (dimensionPieces (v .dimension)) (cond b ((space ∷ []) ∷ []) []) rest, ← space-is b, ← dimension-is (v .dimension) (cond b (space ∷ rest) rest))
+        (word-is (stringOf names (v .kind)) (putDimension (v .dimension) (cond b (space ∷ rest) rest)))
+
+-- ---- what is put of each part is its canonical text
+module _ {p r : Pen} {out out' : List ℕ} where
+  pub number-emits : {lead : ℕ} (text numbers : List ℕ) (i : ℕ) → PutsEach (numberPieces lead (textAt text numbers i)) p out r out' → Emits (λ rest. lead ∷ putNumber text numbers i rest) p out r out'
+  unfolding putNumber
+  number-emits {lead} text numbers i a = emits-as (each-emits _ a) (number-is lead (textAt text numbers i))
+
+  pub comma-emits : (v : Visit) → PutsEach (commaPieces v) p out r out' → Emits (putComma v) p out r out'
+  comma-emits v a = emits-as (each-emits _ a) (comma-is v)
+
+  pub head-emits : (v : Visit) → PutsEach (headPieces v) p out r out' → Emits (putHead v) p out r out'
+  head-emits v a = emits-as (each-emits _ a) (head-is v)

@@ -1,11 +1,10 @@
 // Canonical text that is put in one go: a number, the comma before a child, and a node's name with its dimension.
 ghost use mathlib.Core.Path.{_≡_};
-ghost use mathlib.Core.List.{_∷_};
 ghost use Rattle.scan.specs.Front.{begins};
 ghost use Rattle.names.specs.Letters.{isLetter};
-ghost use Rattle.pen.specs.Pen.{Emits};
-ghost use Rattle.canonical_text.specs.Canonical.{needsPlus, putDimension};
-ghost use Rattle.pieces.specs.Pieces.{putNumber, putName, putComma, putHead};
+ghost use Rattle.canonical_text.specs.Canonical.{needsPlus};
+ghost use Rattle.shape.specs.Numbers.{textAt};
+ghost use Rattle.pieces.specs.Pieces.{PutsEach, numberPieces, namePieces, dimensionPieces, commaPieces, headPieces};
 use kinds::DIM_XY;
 use kinds::DIM_XYM;
 use kinds::DIM_XYZ;
@@ -54,7 +53,7 @@ fn needs_plus(w: &[u8]) -> bool
 
 // A number, after the byte `lead`.
 pub fn put_number(out: &mut [u8], p: Pen, lead: u8, text: &[u8], numbers: &[u32], i: usize) -> Pen
-    ensures { λ r. ⌜ Emits (λ rest. lead ∷ putNumber (now (text .entry)) (now (numbers .entry)) i rest) p (now (out .entry)) r (now (out .exit)) ⌝ }
+    ensures { λ r. ⌜ PutsEach (numberPieces lead (textAt (now (text .entry)) (now (numbers .entry)) i)) p (now (out .entry)) r (now (out .exit)) ⌝ }
 {
     let w = shape::number_text(text, numbers, i);
     if needs_plus(w) {
@@ -65,7 +64,7 @@ pub fn put_number(out: &mut [u8], p: Pen, lead: u8, text: &[u8], numbers: &[u32]
 }
 
 fn put_name(out: &mut [u8], p: Pen, kind: u32) -> Pen
-    ensures { λ r. ⌜ Emits (putName kind) p (now (out .entry)) r (now (out .exit)) ⌝ }
+    ensures { λ r. ⌜ PutsEach (namePieces kind) p (now (out .entry)) r (now (out .exit)) ⌝ }
 {
     match kind {
         KIND_POINT => pen::put(out, p, &POINT),
@@ -81,7 +80,7 @@ fn put_name(out: &mut [u8], p: Pen, kind: u32) -> Pen
 
 // A blank and the ending, if the dimension has one.
 fn put_dimension(out: &mut [u8], p: Pen, dimension: u32) -> Pen
-    ensures { λ r. ⌜ Emits (putDimension dimension) p (now (out .entry)) r (now (out .exit)) ⌝ }
+    ensures { λ r. ⌜ PutsEach (dimensionPieces dimension) p (now (out .entry)) r (now (out .exit)) ⌝ }
 {
     if dimension == DIM_XY {
         return p;
@@ -97,7 +96,7 @@ fn put_dimension(out: &mut [u8], p: Pen, dimension: u32) -> Pen
 
 // The comma before every child but the first.
 pub fn put_comma(out: &mut [u8], p: Pen, v: Visit) -> Pen
-    ensures { λ r. ⌜ Emits (putComma v) p (now (out .entry)) r (now (out .exit)) ⌝ }
+    ensures { λ r. ⌜ PutsEach (commaPieces v) p (now (out .entry)) r (now (out .exit)) ⌝ }
 {
     if v.parent.next == 0 {
         return p;
@@ -107,7 +106,7 @@ pub fn put_comma(out: &mut [u8], p: Pen, v: Visit) -> Pen
 
 // The name and the dimension of a node at the root or in a collection, and the blank before its EMPTY.
 pub fn put_head(out: &mut [u8], p: Pen, v: Visit) -> Pen
-    ensures { λ r. ⌜ Emits (putHead v) p (now (out .entry)) r (now (out .exit)) ⌝ }
+    ensures { λ r. ⌜ PutsEach (headPieces v) p (now (out .entry)) r (now (out .exit)) ⌝ }
 {
     if !nodes::is_free(v.parent.kind) {
         return p;

@@ -11,7 +11,7 @@ use Rattle.store.specs.Rows.{numberRoom}
 use Rattle.nodes.specs.declared.Visit.{Visit}
 use Rattle.kinds.proofs.Widths.{width-some}
 use Rattle.walk.specs.Walk.{NumbersIn}
-use Rattle.pieces.specs.Pieces.{putNumber}
+use Rattle.pieces.specs.Canonical.{putNumber}
 use Rattle.to_wkt.specs.Canonical.{putSpaced, putCoordinate, putListed, putCoordinates}
 
 -- ---- loops: one of what is left, and the others

@@ -29,7 +29,7 @@ use Rattle.shape.specs.Visits.{Walker, walkEach, walkLeaf, walkParts, walkNest,
 use Rattle.shape.specs.Numbers.{textAt}
 use Rattle.shape.specs.Store.{treeOf, wellFormed, walkRoot, walkOf}
 use Rattle.shape.proofs.Stores.{grown, store-tree}
-use Rattle.pieces.specs.Pieces.{putNumber, putName, putComma, putHead}
+use Rattle.pieces.specs.Canonical.{putNumber, putName, putComma, putHead}
 use Rattle.to_wkt.specs.Canonical.{storeText, writtenText, putSpaced, putCoordinate, putListed, putCoordinates, putBody, putNode, putMet, putAll}
 
 module _ (text numbers : List ℕ) where

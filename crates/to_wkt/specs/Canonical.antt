@@ -14,7 +14,7 @@ use Rattle.nodes.specs.declared.Visit.{Visit}
 use Rattle.nodes.specs.declared.Met.{Met}
 use Rattle.nodes.specs.declared.Met.the-variants.{Node, End, Done, Ill}
 use Rattle.shape.specs.Store.{treeOf}
-use Rattle.pieces.specs.Pieces.{putNumber, putComma, putHead}
+use Rattle.pieces.specs.Canonical.{putNumber, putComma, putHead}
 
 -- the canonical text of a store, if it is well formed
 unfoldable pub storeText : List ℕ → List ℕ → List ℕ → Option (List ℕ)

@@ -19,7 +19,7 @@ use Rattle.nodes.specs.Nodes.{isAllowed, childKind}
 use Rattle.shape.specs.Numbers.{textAt, areNumbers}
 use Rattle.shape.specs.Store.{areWhole, treeOf, walkOf}
 use Rattle.shape.specs.Visits.{walkEach, walkParts}
-use Rattle.pieces.specs.Pieces.{putNumber, putName, putComma, putHead}
+use Rattle.pieces.specs.Canonical.{putNumber, putName, putComma, putHead}
 use Rattle.to_wkt.specs.Canonical.{storeText, putSpaced, putCoordinate, putListed, putCoordinates, putBody, putNode, putMet, putAll}
 use Rattle.to_wkt.specs.Write.{outputOf}
 

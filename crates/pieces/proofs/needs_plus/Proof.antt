@@ -2,7 +2,7 @@
 -- Assumes nothing.
 use mathlib.Core.Path.{_∙_}
 use borrow.Author.Needs.{needs}
-use Rattle.pieces.proofs.Pieces.{plus-none, plus-low, plus-high}
+use Rattle.pieces.proofs.Canonical.{plus-none, plus-low, plus-high}
 use Rattle.pieces.proofs.needs_plus.Statement.{statement}
 use Rattle.pieces.proofs.needs_plus.Tie as tie
 

@@ -2,15 +2,16 @@
 -- Assumes nothing.
 use borrow.Author.Needs.{needs}
 use borrow.Author.Tests.{eq-eqb, ne-eqb}
-use Rattle.pen.proofs.Puts.{emits, emits-then, emits-as, owes-same}
-use Rattle.canonical_text.specs.Canonical.{putDimension, stringOf}
-use Rattle.pieces.proofs.Pieces.{no-ending}
+use Rattle.canonical_text.specs.Canonical.{stringOf}
+use Rattle.pieces.specs.Pieces.{wordPieces, dimensionPieces}
+use Rattle.pieces.proofs.Canonical.{no-ending}
+use Rattle.pieces.proofs.Pieces.{puts-none, puts-on, puts-one, puts-as}
 use Rattle.pieces.proofs.put_dimension.Statement.{statement}
 use Rattle.pieces.proofs.put_dimension.Tie as tie
 
 returns : tie.Need-returns
-unfolding putDimension
-returns c = emits-as (owes-same _ _ _) (λ rest. rw (eq-eqb _ _ (c .if1 .taken)))
+unfolding dimensionPieces wordPieces
+returns c = puts-as (puts-none _ _) (rw (eq-eqb _ _ (c .if1 .taken)))
 
 put-byte-requires : tie.Need-put-byte-requires
 put-byte-requires c κs = search needs
@@ -37,31 +38,31 @@ same-length : tie.Need-same-length
 same-length c = search needs
 
 returns-2 : tie.Need-returns-2
-unfolding putDimension stringOf
-returns-2 c = emits-as (emits-then (emits (c .before .before .before .before .before .before .before .before .put-byte .ensures)) (emits (c .before .before .put .ensures))) (λ rest. rw (c .before .before .before .before .before .match .keys1))
+unfolding dimensionPieces wordPieces stringOf
+returns-2 c = puts-as (puts-on (c .before .before .before .before .before .before .before .before .put-byte .ensures) (puts-one (c .before .before .put .ensures))) (rw (c .before .before .before .before .before .match .keys1))
 
 same-length-2 : tie.Need-same-length-2
 same-length-2 c = search needs
 
 returns-3 : tie.Need-returns-3
-unfolding putDimension stringOf
-returns-3 c = emits-as (emits-then (emits (c .before .before .before .before .before .before .before .before .put-byte .ensures)) (emits (c .before .before .put2 .ensures))) (λ rest. rw (c .before .before .before .before .before .match .keys2))
+unfolding dimensionPieces wordPieces stringOf
+returns-3 c = puts-as (puts-on (c .before .before .before .before .before .before .before .before .put-byte .ensures) (puts-one (c .before .before .put2 .ensures))) (rw (c .before .before .before .before .before .match .keys2))
 
 same-length-3 : tie.Need-same-length-3
 same-length-3 c = search needs
 
 returns-4 : tie.Need-returns-4
-unfolding putDimension stringOf
-returns-4 c = emits-as (emits-then (emits (c .before .before .before .before .before .before .before .before .put-byte .ensures)) (emits (c .before .before .put3 .ensures))) (λ rest. rw (c .before .before .before .before .before .match .keys3))
+unfolding dimensionPieces wordPieces stringOf
+returns-4 c = puts-as (puts-on (c .before .before .before .before .before .before .before .before .put-byte .ensures) (puts-one (c .before .before .put3 .ensures))) (rw (c .before .before .before .before .before .match .keys3))
 
 same-length-4 : tie.Need-same-length-4
 same-length-4 c = search needs
 
 returns-5 : tie.Need-returns-5
-unfolding putDimension
+unfolding dimensionPieces wordPieces
 returns-5 c =
     let r = c .match .rest in
-    emits-as (emits (c .before .before .before .put-byte .ensures)) (λ rest. rw (ne-eqb _ _ (c .before .before .before .before .before .if1 .left), no-ending _ (c .before .before .before .before .before .if1 .left) (r .0 .0 .1) (r .0 .1) (r .1)))
+    puts-as (puts-one (c .before .before .before .put-byte .ensures)) (rw (ne-eqb _ _ (c .before .before .before .before .before .if1 .left), no-ending _ (c .before .before .before .before .before .if1 .left) (r .0 .0 .1) (r .0 .1) (r .1)))
 
 pub put-dimension-spec : {M : Type 1} → statement M
 put-dimension-spec =

@@ -3,8 +3,8 @@
 use mathlib.Core.Path.{sym, _∙_}
 use borrow.Author.Needs.{needs}
 use borrow.Author.Tests.{eq-eqb, ne-eqb, not-true, not-false}
-use Rattle.pen.proofs.Puts.{emits, emits-then, emits-as, owes-same}
-use Rattle.pieces.specs.Pieces.{putHead}
+use Rattle.pieces.specs.Pieces.{headPieces}
+use Rattle.pieces.proofs.Pieces.{puts-none, puts-one, puts-then, puts-as}
 use Rattle.pieces.proofs.put_head.Statement.{statement}
 use Rattle.pieces.proofs.put_head.Tie as tie
 
@@ -12,8 +12,8 @@ is-free-requires : tie.Need-is-free-requires
 is-free-requires c κs = search needs
 
 returns : tie.Need-returns
-unfolding putHead
-returns c = emits-as (owes-same _ _ _) (λ rest. rw (sym (c .before .is-free .ensures) ∙ not-true _ (c .if1 .taken)))
+unfolding headPieces
+returns c = puts-as (puts-none _ _) (rw (sym (c .before .is-free .ensures) ∙ not-true _ (c .if1 .taken)))
 
 put-name-requires : tie.Need-put-name-requires
 put-name-requires c κs = search needs
@@ -28,15 +28,15 @@ same-length : tie.Need-same-length
 same-length c = search needs
 
 returns-2 : tie.Need-returns-2
-unfolding putHead
-returns-2 c = emits-as (emits-then (c .before .before .before .before .before .before .before .before .before .before .before .before .put-name .ensures) (emits-then (c .before .before .before .before .before .before .before .before .put-dimension .ensures) (emits (c .before .before .put-byte .ensures)))) (λ rest. rw (sym (c .before .before .before .before .before .before .before .before .before .before .before .before .before .before .before .is-free .ensures) ∙ not-false _ (c .before .before .before .before .before .before .before .before .before .before .before .before .before .before .if1 .left), eq-eqb _ _ (c .before .before .before .before .if2 .taken)))
+unfolding headPieces
+returns-2 c = puts-as (puts-then (c .before .before .before .before .before .before .before .before .before .before .before .before .put-name .ensures) (puts-then (c .before .before .before .before .before .before .before .before .put-dimension .ensures) (puts-one (c .before .before .put-byte .ensures)))) (rw (sym (c .before .before .before .before .before .before .before .before .before .before .before .before .before .before .before .is-free .ensures) ∙ not-false _ (c .before .before .before .before .before .before .before .before .before .before .before .before .before .before .if1 .left), eq-eqb _ _ (c .before .before .before .before .if2 .taken)))
 
 same-length-2 : tie.Need-same-length-2
 same-length-2 c = search needs
 
 returns-3 : tie.Need-returns-3
-unfolding putHead
-returns-3 c = emits-as (emits-then (c .before .before .before .before .before .before .before .before .put-name .ensures) (c .before .before .before .before .put-dimension .ensures)) (λ rest. rw (sym (c .before .before .before .before .before .before .before .before .before .before .before .is-free .ensures) ∙ not-false _ (c .before .before .before .before .before .before .before .before .before .before .if1 .left), ne-eqb _ _ (c .if2 .left)))
+unfolding headPieces
+returns-3 c = puts-as (puts-then (c .before .before .before .before .before .before .before .before .put-name .ensures) (puts-then (c .before .before .before .before .put-dimension .ensures) (puts-none _ _))) (rw (sym (c .before .before .before .before .before .before .before .before .before .before .before .is-free .ensures) ∙ not-false _ (c .before .before .before .before .before .before .before .before .before .before .if1 .left), ne-eqb _ _ (c .if2 .left)))
 
 pub put-head-spec : {M : Type 1} → statement M
 put-head-spec =

@@ -1,8 +1,8 @@
 -- `pieces::put_number` meets its contract: the byte before it, and the number's text, with the plus or without.
 -- Assumes nothing.
 use borrow.Author.Needs.{needs}
-use Rattle.pen.proofs.Puts.{emits, emits-then, emits-as}
-use Rattle.pieces.proofs.Pieces.{number-plus, number-bare}
+use Rattle.pieces.proofs.Canonical.{number-plus, number-bare}
+use Rattle.pieces.proofs.Pieces.{puts-on, puts-one, puts-as}
 use Rattle.pieces.proofs.put_number.Statement.{statement}
 use Rattle.pieces.proofs.put_number.Tie as tie
 
@@ -22,7 +22,7 @@ same-length : tie.Need-same-length
 same-length c = search needs
 
 returns : tie.Need-returns
-returns c = emits-as (emits-then (emits (c .before .before .before .before .before .before .put-byte .ensures)) (emits (c .before .before .put-led .ensures))) (number-plus _ _ _ _ (c .before .before .before .before .before .before .before .before .before .before .number-text .ensures) (c .before .before .before .before .before .before .before .before .before .needs-plus .ensures) (c .before .before .before .before .before .before .before .before .if1 .taken))
+returns c = puts-as (puts-on (c .before .before .before .before .before .before .put-byte .ensures) (puts-one (c .before .before .put-led .ensures))) (number-plus _ (c .before .before .before .before .before .before .before .before .before .before .number-text .ensures) (c .before .before .before .before .before .before .before .before .before .needs-plus .ensures) (c .before .before .before .before .before .before .before .before .if1 .taken))
 
 put-led-requires-2 : tie.Need-put-led-requires-2
 put-led-requires-2 c κs = search needs
@@ -31,7 +31,7 @@ same-length-2 : tie.Need-same-length-2
 same-length-2 c = search needs
 
 returns-2 : tie.Need-returns-2
-returns-2 c = emits-as (emits (c .before .before .put-led2 .ensures)) (number-bare _ _ _ _ (c .before .before .before .before .before .before .number-text .ensures) (c .before .before .before .before .before .needs-plus .ensures) (c .before .before .before .before .if1 .left))
+returns-2 c = puts-as (puts-one (c .before .before .put-led2 .ensures)) (number-bare _ (c .before .before .before .before .before .before .number-text .ensures) (c .before .before .before .before .before .needs-plus .ensures) (c .before .before .before .before .if1 .left))
 
 pub put-number-spec : {M : Type 1} → statement M
 put-number-spec =
