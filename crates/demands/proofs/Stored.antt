@@ -24,14 +24,14 @@ use Rattle.shape.proofs.Stores.{grown, is-well-formed, is-tree, store-tree}
 use Rattle.shape.proofs.Slices.{used-rows, used-spans, same-store}
 use Rattle.form.specs.Form.{KeepsTrees, WriteCall, Filled, Lawful}
 use Rattle.form.proofs.Form.{trees-equal, trees-again, one-tree-one-writing}
-use Rattle.stored.specs.Form.{version1, storedBytes, storedTree, storedOf}
-use Rattle.stored.specs.Reading.{readingOf}
+use Rattle.stored_form.specs.Form.{version1, storedBytes, storedTree, storedOf}
+use Rattle.stored_form.specs.Reading.{readingOf}
+use Rattle.stored_form.proofs.Known.{known-1}
+use Rattle.stored_form.proofs.Stores.{not-well, stored-is}
 use Rattle.stored.specs.Faults.{Fault, too-long, other-version, bad-head, bad-node, bad-number, extra, no-tree, no-node-row, no-number-row}
-use Rattle.stored.proofs.Known.{known-1}
 use Rattle.stored.proofs.Back.{stored-back}
 use Rattle.stored.proofs.Accepted.{accepts, ReadTree, accepted-tree, accepted-stored}
 use Rattle.stored.proofs.Faults.{refused-exactly}
-use Rattle.stored.proofs.Written.{not-well, stored-is}
 use Rattle.strict.specs.declared.StrictAnswer.{StrictAnswer}
 use Rattle.canonical_text.specs.Canonical.{canonicalText}
 use Rattle.to_wkt.specs.Canonical.{storeText, theText, writtenText}

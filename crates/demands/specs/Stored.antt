@@ -18,8 +18,8 @@ use Rattle.tree.specs.TreeIn.{SpanIn}
 use Rattle.shape.specs.Store.{allRows, allSpans, allTexts, treeOf, wellFormed}
 use Rattle.form.specs.Form.{Form, TreesEqual, TreesAgain, Entries, Back, OneTreeOneWriting}
 use Rattle.fields.specs.Counts.{IsByte}
-use Rattle.stored.specs.Form.{version1, storedRows, fitsRows, storedBytes, fitsTree, storedOf}
-use Rattle.stored.specs.Reading.{readingOf}
+use Rattle.stored_form.specs.Form.{version1, storedRows, fitsRows, storedBytes, fitsTree, storedOf}
+use Rattle.stored_form.specs.Reading.{readingOf}
 use Rattle.stored.specs.Faults.{Fault}
 use Rattle.strict.specs.declared.StrictAnswer.{StrictAnswer}
 use Rattle.to_wkt.specs.Canonical.{writtenText}

@@ -25,14 +25,14 @@ use Rattle.fields.specs.Counts.{byte, IsByte, countIn, countBytes}
 use Rattle.fields.specs.Fields.{headLength, longest, field, lengthIn, contentEnd, contentIn, isField, isSized}
 use Rattle.fields.proofs.Counts.{all-take, all-drop, count-bound, bytes-of-count}
 use Rattle.fields.proofs.Fields.{is-there, has-tag, has-room, sized-field}
-use Rattle.stored.specs.declared.Version.{Version}
-use Rattle.stored.specs.declared.reading.Counts.{Counts}
-use Rattle.stored.specs.declared.reading.Head.{Head}
-use Rattle.stored.specs.declared.reading.Head.the-variants as head
-use Rattle.stored.specs.Form.{Known, headTag, nodeTag, numberTag, headSize, nodeSize, headField, nodeField, numberField, storedRows, firstNode, nodePlace, storedBytes, fitsTree}
-use Rattle.stored.specs.Reading.{versionAt, isOtherVersion, nodesTold, numbersTold, countsRead, headIn, Run, faulty, whole, rowTold, nodeAfter, nodesFrom, spanTold, numbersFrom, placeAfter, roomed, checked, afterNodes, afterNumbers, afterHead, readingOf}
-use Rattle.stored.proofs.Runs.{whole-one, no-field, first, fields-count}
-use Rattle.stored.proofs.Fits.{FitsEach, each-fits}
+use Rattle.stored_form.specs.declared.Version.{Version}
+use Rattle.stored_form.specs.declared.Counts.{Counts}
+use Rattle.stored_form.specs.declared.Head.{Head}
+use Rattle.stored_form.specs.declared.Head.the-variants as head
+use Rattle.stored_form.specs.Form.{Known, headTag, nodeTag, numberTag, headSize, nodeSize, headField, nodeField, numberField, storedRows, firstNode, nodePlace, storedBytes, fitsTree}
+use Rattle.stored_form.specs.Reading.{versionAt, isOtherVersion, nodesTold, numbersTold, countsRead, headIn, Run, faulty, whole, rowTold, nodeAfter, nodesFrom, spanTold, numbersFrom, placeAfter, roomed, checked, afterNodes, afterNumbers, afterHead, readingOf}
+use Rattle.stored_form.proofs.Runs.{whole-one, no-field, first, fields-count}
+use Rattle.stored_form.proofs.Fits.{FitsEach, each-fits}
 
 -- the bytes of a count that lies in bytes
 count-here : (bytes : List ℕ) → All IsByte bytes → (w at : ℕ) → at + w ≤ length bytes → countBytes w (countIn (take w (drop at bytes))) ≡ take w (drop at bytes)

@@ -27,12 +27,12 @@ use Rattle.fields.specs.Counts.{byte, countIn, countBytes}
 use Rattle.fields.specs.Fields.{headLength, longest, field, lengthIn, contentEnd, isField, isSized}
 use Rattle.fields.proofs.Counts.{bytes-length, count-of-bytes}
 use Rattle.fields.proofs.Fields.{There, there-is, has-room, field-sized}
-use Rattle.stored.specs.declared.Version.{Version}
-use Rattle.stored.specs.declared.reading.Head.the-variants as head
-use Rattle.stored.specs.Form.{Known, headTag, nodeTag, numberTag, headSize, nodeSize, headField, nodeField, numberField, storedRows, firstNode, storedBytes, fitsTree}
-use Rattle.stored.specs.Reading.{versionAt, isOtherVersion, headIn, whole, before, rowTold, nodeAfter, nodesFrom, spanTold, numbersFrom, roomed, checked, readingOf}
-use Rattle.stored.proofs.Fits.{FitsEach, fits-each}
-use Rattle.stored.proofs.Runs.{field-on, no-field}
+use Rattle.stored_form.specs.declared.Version.{Version}
+use Rattle.stored_form.specs.declared.Head.the-variants as head
+use Rattle.stored_form.specs.Form.{Known, headTag, nodeTag, numberTag, headSize, nodeSize, headField, nodeField, numberField, storedRows, firstNode, storedBytes, fitsTree}
+use Rattle.stored_form.specs.Reading.{versionAt, isOtherVersion, headIn, whole, before, rowTold, nodeAfter, nodesFrom, spanTold, numbersFrom, roomed, checked, readingOf}
+use Rattle.stored_form.proofs.Fits.{FitsEach, fits-each}
+use Rattle.stored_form.proofs.Runs.{field-on, no-field}
 
 -- ---- what stands at a place
 module _ (bytes : List ℕ) (at : ℕ) where

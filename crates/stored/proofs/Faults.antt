@@ -19,12 +19,12 @@ use Rattle.store.proofs.Cells.{firsts-length}
 use Rattle.walk.proofs.Stack.{firsts-cut, firsts-past}
 use Rattle.shape.specs.Store.{wellFormed}
 use Rattle.fields.specs.Fields.{headLength, contentEnd, isField, isSized}
-use Rattle.stored.specs.declared.Version.{Version}
-use Rattle.stored.specs.declared.reading.Head.the-variants as head
-use Rattle.stored.specs.Form.{headTag, nodeTag, numberTag, headSize, nodeSize, firstNode, nodePlace}
-use Rattle.stored.specs.Reading.{versionAt, isOtherVersion, headIn, faulty, whole, before, fieldsFrom, rowTold, nodeAfter, nodesFrom, spanTold, numbersFrom, placeAfter, roomed, checked, afterNodes, afterNumbers, readingOf}
+use Rattle.stored_form.specs.declared.Version.{Version}
+use Rattle.stored_form.specs.declared.Head.the-variants as head
+use Rattle.stored_form.specs.Form.{headTag, nodeTag, numberTag, headSize, nodeSize, firstNode, nodePlace}
+use Rattle.stored_form.specs.Reading.{versionAt, isOtherVersion, headIn, faulty, whole, before, fieldsFrom, rowTold, nodeAfter, nodesFrom, spanTold, numbersFrom, placeAfter, roomed, checked, afterNodes, afterNumbers, readingOf}
 use Rattle.stored.specs.Faults.{OtherVersion, nodeCount, numberCount, numberPlace, rowsTold, spansTold, Ours, HasHead, HasNodes, HasNumbers, HasFields, HasTree, Fault, too-long, other-version, bad-head, bad-node, bad-number, extra, no-tree, no-node-row, no-number-row, Reads, accepts, refuses}
-use Rattle.stored.proofs.Runs.{field-on, field-off, no-field}
+use Rattle.stored_form.proofs.Runs.{field-on, field-off, no-field}
 
 -- ---- fields at places that follow each other
 module _ {X : Type 0} (right : ℕ → Bool) (told : ℕ → X) (next : ℕ → ℕ) (at : ℕ → ℕ) (on : (i : ℕ) → at (i + 1) ≡ next (at i)) where

@@ -7,8 +7,8 @@ use Rattle.store.specs.declared.ReadAnswer.{ReadAnswer}
 use Rattle.store.specs.declared.WriteAnswer.{WriteAnswer}
 use Rattle.store.specs.Rows.{nodeRoom, numberRoom}
 use Rattle.store.specs.Answers.{Leaves, leaves-one, Writes, writes-one}
-use Rattle.stored.specs.Form.{version1, storedOf}
-use Rattle.stored.specs.Reading.{readingOf}
+use Rattle.stored_form.specs.Form.{version1, storedOf}
+use Rattle.stored_form.specs.Reading.{readingOf}
 
 pub read-one : (bytes ns ms : List ℕ) {a a′ : ReadAnswer} {ns′ ns″ ms′ ms″ : List ℕ} → Leaves (readingOf version1 (nodeRoom ns) (numberRoom ms) bytes) ns ms a ns′ ms′ → Leaves (readingOf version1 (nodeRoom ns) (numberRoom ms) bytes) ns ms a′ ns″ ms″ → (a ≡ a′) × (ns′ ≡ ns″) × (ms′ ≡ ms″)
 read-one bytes ns ms x y = leaves-one x y

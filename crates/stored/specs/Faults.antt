@@ -9,9 +9,9 @@ use Rattle.store.specs.Rows.{Row, Span, flatRows, flatSpans, firsts}
 use Rattle.store.specs.Answers.{Outcome, filled, refused}
 use Rattle.shape.specs.Store.{wellFormed}
 use Rattle.fields.specs.Fields.{isField, isSized}
-use Rattle.stored.specs.declared.Version.{Version}
-use Rattle.stored.specs.Form.{headTag, nodeTag, numberTag, headSize, nodeSize, nodePlace}
-use Rattle.stored.specs.Reading.{versionAt, nodesTold, numbersTold, rowTold, spanTold, placeAfter}
+use Rattle.stored_form.specs.declared.Version.{Version}
+use Rattle.stored_form.specs.Form.{headTag, nodeTag, numberTag, headSize, nodeSize, nodePlace}
+use Rattle.stored_form.specs.Reading.{versionAt, nodesTold, numbersTold, rowTold, spanTold, placeAfter}
 
 module _ (v : Version) (bytes : List ℕ) where
   -- "if the first byte is 1 and byte 3 exists and is no known version"

@@ -10,8 +10,8 @@ use Rattle.grammar.specs.Reading.{reading}
 use Rattle.wkt.specs.Leaves.{outcomeOf}
 use Rattle.to_wkt.specs.Canonical.{storeText}
 use Rattle.to_wkt.specs.Write.{outputOf}
-use Rattle.stored.specs.Form.{version1, storedOf}
-use Rattle.stored.specs.Reading.{readingOf}
+use Rattle.stored_form.specs.Form.{version1, storedOf}
+use Rattle.stored_form.specs.Reading.{readingOf}
 use Rattle.lists.specs.One.{One}
 use Rattle.lists.proofs.One.{one}
 use Rattle.rooms.specs.Rooms.{enoughRows}

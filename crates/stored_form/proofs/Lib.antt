@@ -1,0 +1,5 @@
+pub mod Known
+pub mod Runs
+pub mod Fits
+pub mod Stores
+pub mod OneOutcome

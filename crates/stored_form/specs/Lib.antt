@@ -1,0 +1,4 @@
+pub mod Form
+pub mod Reading
+pub mod FormExamples
+pub mod Examples

@@ -1,0 +1,42 @@
+// The stored form of a tree (document 02, 2026-01), nearly without code: what a version of the form has of its own, and what a head tells. Its fields
+// and what reading any bytes comes to are in specs.
+ghost use mathlib.Core.Path.{_≡_};
+ghost use Rattle.stored_form.specs.Form.{version1};
+
+pub const HEAD_TAG: u8 = 1;
+
+pub const NODE_TAG: u8 = 2;
+
+pub const NUMBER_TAG: u8 = 3;
+
+// What a version of the form has of its own: the byte that names it, how many bytes a count has, the largest count, and how many bytes there may
+// be in all.
+pub struct Version {
+    pub number: u8,
+    pub width: usize,
+    pub largest: usize,
+    pub limit: usize,
+}
+
+// How many nodes and how many numbers the head tells of.
+pub struct Counts {
+    pub nodes: usize,
+    pub numbers: usize,
+}
+
+// What the head comes to: counts, or a refusal's number and place.
+pub enum Head {
+    Told(Counts),
+    Refused(u32, usize),
+}
+
+pub fn version_1() -> Version
+    ensures { λ r. ⌜ r ≡ version1 ⌝ }
+{
+    Version {
+        number: 1,
+        width: 2,
+        largest: 65_535,
+        limit: 1_048_576,
+    }
+}

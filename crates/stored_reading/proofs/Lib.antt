@@ -1,0 +1,5 @@
+pub mod Heads
+pub mod Fills
+pub mod Looks
+pub mod Outcomes
+pub mod OneOutcome

@@ -1,0 +1,13 @@
+-- Two outcomes that a public function's contract allows for one input are one outcome: the answer, and what the lent slices are left with.
+-- Assumes nothing.
+use Prim.Native.Nat.{ℕ}
+use mathlib.Core.Path.{_≡_}
+use mathlib.Core.List.{List}
+use Rattle.store.specs.declared.ReadAnswer.{ReadAnswer}
+use Rattle.store.specs.Rows.{nodeRoom, numberRoom}
+use Rattle.store.specs.Answers.{Leaves, leaves-one}
+use Rattle.stored_form.specs.Form.{version1}
+use Rattle.stored_form.specs.Reading.{readingOf}
+
+pub read-one : (bytes ns ms : List ℕ) {a a′ : ReadAnswer} {ns′ ns″ ms′ ms″ : List ℕ} → Leaves (readingOf version1 (nodeRoom ns) (numberRoom ms) bytes) ns ms a ns′ ms′ → Leaves (readingOf version1 (nodeRoom ns) (numberRoom ms) bytes) ns ms a′ ns″ ms″ → (a ≡ a′) × (ns′ ≡ ns″) × (ms′ ≡ ms″)
+read-one bytes ns ms x y = leaves-one x y

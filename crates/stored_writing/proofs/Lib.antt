@@ -1,0 +1,4 @@
+pub mod Measures
+pub mod Putting
+pub mod Written
+pub mod OneOutcome
