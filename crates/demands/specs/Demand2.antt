@@ -34,7 +34,7 @@ pub record IsTheTree (text : List ℕ) (a : ReadAnswer) (ns′ ms′ : List ℕ)
   pub its-rows : usedNodes a ns′ ≡ flatRows (rows depthLimit tree)
   pub its-texts : allTexts text (usedNumbers a ms′) ≡ texts depthLimit tree
 
--- "made-up node or number counts, by demand 2's tree" (as an edit of the code: wkt_c/made_up_count)
+-- "made-up node or number counts, by demand 2's tree" (as an edit of the code: c_answers/made_up_count)
 abbrev pub Counted : Type 0
 Counted = (text ns ms : List ℕ) (a : ReadAnswer) (ns′ ms′ : List ℕ) → Read text ns ms a ns′ ms′ → a .number ≡ 0 → IsTheTree text a ns′ ms′
 

@@ -1,58 +1,18 @@
 -- Laws of the canonical text, a step at a time.
 -- Assumes nothing.
-use mathlib.Core.Path.{_≡_, refl, ap, sym, _∙_}
-use mathlib.Core.Bool.{Bool, true, false, cond, _||_}
-use mathlib.Core.List.{List, [], _∷_, _++_}
+use mathlib.Core.Path.{_≡_, refl, ap, _∙_}
+use mathlib.Core.List.{List, _∷_}
 use Prim.Native.Nat.{ℕ, zero, suc, _+_, _-_, _*_, _≤_, _<_}
 use native.Mathlib.Omega.{arith}
 use native.Mathlib.Nat.{suc-mul, add-comm}
-use lib.Dec.{eqb}
-use borrow.Author.Tests.{lt-leb, ne-eqb}
-use lib.ListN.{length, getD}
-use Rattle.scan.specs.Bytes.{space, comma, plus, isPlus}
-use Rattle.scan.specs.Front.{begins}
+use Rattle.scan.specs.Bytes.{space, comma}
 use Rattle.kinds.specs.Kinds.{kindLineString, width}
-use Rattle.names.specs.Letters.{isLetter}
-use Rattle.names.specs.Names.{names, endings}
 use Rattle.store.specs.Rows.{numberRoom}
 use Rattle.nodes.specs.declared.Visit.{Visit}
 use Rattle.kinds.proofs.Widths.{width-some}
-use Rattle.shape.specs.Numbers.{textAt}
-use Rattle.canonical_text.specs.Canonical.{needsPlus, spell, stringOf}
 use Rattle.walk.specs.Walk.{NumbersIn}
-use Rattle.to_wkt.specs.Canonical.{putNumber, putSpaced, putCoordinate, putListed, putCoordinates}
-
--- ---- numbers
-pub plus-none : (w : List ℕ) → length w ≡ 0 → false ≡ begins needsPlus w
-unfolding begins
-plus-none [] e = refl
-plus-none (b ∷ w) e = absurd (omega arith)
-
-pub plus-some : (w : List ℕ) → (length w ≡ 0 → ⊥) → needsPlus (getD w 0 0) ≡ begins needsPlus w
-unfolding begins
-plus-some [] e = absurd (e refl)
-plus-some (b ∷ w) e = refl
-
--- no byte before the letters is one, and no letter is a plus
-module _ (w : List ℕ) (some : length w ≡ 0 → ⊥) where
-  pub plus-low : getD w 0 0 < 65 → isPlus (getD w 0 0) ≡ begins needsPlus w
-  plus-low h = sym (or-false (isPlus (getD w 0 0))) ∙ sym (ap (λ b. isPlus (getD w 0 0) || b) (rw (lt-leb 97 (getD w 0 0) (omega arith), lt-leb 65 (getD w 0 0) h))) ∙ plus-some w some
-    where
-      or-false : (b : Bool) → (b || false) ≡ b
-      or-false true = refl
-      or-false false = refl
-
-  pub plus-high : 65 ≤ getD w 0 0 → isLetter (getD w 0 0) ≡ begins needsPlus w
-  plus-high h = rw (ne-eqb (getD w 0 0) 43 (λ e. omega arith)) at (plus-some w some)
-
-module _ (text numbers : List ℕ) (i : ℕ) (lead : ℕ) {w : List ℕ} (is : w ≡ textAt text numbers i) {b : Bool} (t : b ≡ begins needsPlus w) where
-  pub number-plus : b ≡ true → (rest : List ℕ) → lead ∷ putNumber text numbers i rest ≡ lead ∷ plus ∷ (w ++ rest)
-  unfolding putNumber spell
-  number-plus e rest = rw (← is, ← t, e)
-
-  pub number-bare : b ≡ false → (rest : List ℕ) → lead ∷ putNumber text numbers i rest ≡ lead ∷ (w ++ rest)
-  unfolding putNumber spell
-  number-bare e rest = rw (← is, ← t, e)
+use Rattle.pieces.specs.Canonical.{putNumber}
+use Rattle.to_wkt.specs.Canonical.{putSpaced, putCoordinate, putListed, putCoordinates}
 
 -- ---- loops: one of what is left, and the others
 less : (n i : ℕ) → i < n → n - i ≡ suc (n - (i + 1))
@@ -106,16 +66,6 @@ module _ (text numbers : List ℕ) where
   pub coordinates-all : (lead first w n : ℕ) → 1 ≤ n → (rest : List ℕ) → lead ∷ putCoordinates text numbers first w n rest ≡ ledCoordinates lead first w (n - 0) rest
   unfolding ledCoordinates putCoordinates
   coordinates-all lead first w n h rest = let y : n - 0 ≡ suc (n - 1) = omega arith in rw y
-
--- ---- names of no kind and no dimension
-module _ (k : ℕ) where
-  pub no-ending : (k ≡ 0 → ⊥) → (k ≡ 1 → ⊥) → (k ≡ 2 → ⊥) → (k ≡ 3 → ⊥) → stringOf endings k ≡ []
-  unfolding stringOf
-  no-ending a b d e = rw (ne-eqb k 0 a, ne-eqb k 1 b, ne-eqb k 2 d, ne-eqb k 3 e)
-
-  pub no-name : (k ≡ 1 → ⊥) → (k ≡ 2 → ⊥) → (k ≡ 3 → ⊥) → (k ≡ 4 → ⊥) → (k ≡ 5 → ⊥) → (k ≡ 6 → ⊥) → (k ≡ 7 → ⊥) → stringOf names k ≡ []
-  unfolding stringOf
-  no-name a b d e f g h = rw (ne-eqb k 1 a, ne-eqb k 2 b, ne-eqb k 3 d, ne-eqb k 4 e, ne-eqb k 5 f, ne-eqb k 6 g, ne-eqb k 7 h)
 
 -- ---- sizes
 -- n coordinates of w numbers: one, and the others

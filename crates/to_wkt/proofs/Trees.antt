@@ -29,7 +29,8 @@ use Rattle.shape.specs.Visits.{Walker, walkEach, walkLeaf, walkParts, walkNest,
 use Rattle.shape.specs.Numbers.{textAt}
 use Rattle.shape.specs.Store.{treeOf, wellFormed, walkRoot, walkOf}
 use Rattle.shape.proofs.Stores.{grown, store-tree}
-use Rattle.to_wkt.specs.Canonical.{storeText, writtenText, putNumber, putSpaced, putCoordinate, putListed, putCoordinates, putName, putComma, putHead, putBody, putNode, putMet, putAll}
+use Rattle.pieces.specs.Canonical.{putNumber, putName, putComma, putHead}
+use Rattle.to_wkt.specs.Canonical.{storeText, writtenText, putSpaced, putCoordinate, putListed, putCoordinates, putBody, putNode, putMet, putAll}
 
 module _ (text numbers : List ℕ) where
   pub put-both : (a b : List Met) (r : List ℕ) → putAll text numbers (a ++ b) r ≡ putAll text numbers a (putAll text numbers b r)

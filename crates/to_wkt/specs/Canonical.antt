@@ -1,22 +1,20 @@
 -- The canonical text of a store (document 01, "Canonical text"): that of its tree. Below it the text as the writer puts it, thing by thing as a walk meets
 -- them; `proofs/Trees` shows that they are one. A definition named put.. takes what comes after it: the bytes of its own, then the rest.
-use mathlib.Core.Bool.{Bool, cond, not}
+use mathlib.Core.Bool.{cond}
 use mathlib.Core.Option.{Option, none, some}
 use mathlib.Core.List.{List, [], _∷_, _++_}
 use Prim.Native.Nat.{ℕ, zero, suc, _+_, _-_}
 use lib.Dec.{eqb, leb}
 use Rattle.scan.specs.Bytes.{space, parenOpen, parenClose, comma}
 use Rattle.kinds.specs.Kinds.{kindLineString, width}
-use Rattle.names.specs.Names.{names}
 use Rattle.names.specs.Strings.{empty}
-use Rattle.canonical_text.specs.Canonical.{spell, stringOf, putDimension, canonicalText}
+use Rattle.canonical_text.specs.Canonical.{canonicalText}
 use Rattle.lists.specs.Options.{mapO}
 use Rattle.nodes.specs.declared.Visit.{Visit}
 use Rattle.nodes.specs.declared.Met.{Met}
 use Rattle.nodes.specs.declared.Met.the-variants.{Node, End, Done, Ill}
-use Rattle.nodes.specs.Nodes.{isFree}
-use Rattle.shape.specs.Numbers.{textAt}
 use Rattle.shape.specs.Store.{treeOf}
+use Rattle.pieces.specs.Canonical.{putNumber, putComma, putHead}
 
 -- the canonical text of a store, if it is well formed
 unfoldable pub storeText : List ℕ → List ℕ → List ℕ → Option (List ℕ)
@@ -30,11 +28,7 @@ theText (some bytes) = bytes
 unfoldable pub writtenText : List ℕ → List ℕ → List ℕ → List ℕ
 writtenText text nodes numbers = theText (storeText text nodes numbers)
 
--- ---- numbers
--- the number row i
-unfoldable pub putNumber : List ℕ → List ℕ → ℕ → List ℕ → List ℕ
-putNumber text numbers i rest = spell (textAt text numbers i) ++ rest
-
+-- ---- coordinates
 -- "Numbers are separated by one space.": n numbers from i on, a space before each
 unfoldable pub putSpaced : List ℕ → List ℕ → ℕ → ℕ → List ℕ → List ℕ
 putSpaced text numbers i zero rest = rest
@@ -53,20 +47,7 @@ putListed text numbers i w (suc n) rest = comma ∷ putCoordinate text numbers i
 unfoldable pub putCoordinates : List ℕ → List ℕ → ℕ → ℕ → ℕ → List ℕ → List ℕ
 putCoordinates text numbers i w n rest = putCoordinate text numbers i w (putListed text numbers (i + w) w (n - 1) rest)
 
--- ---- names
--- "Upper-case name"
-unfoldable pub putName : ℕ → List ℕ → List ℕ
-putName kind rest = stringOf names kind ++ rest
-
 -- ---- what a walk meets
--- "with `,` between": before every child but the first
-unfoldable pub putComma : Visit → List ℕ → List ℕ
-putComma v rest = cond (eqb (v .parent .next) 0) rest (comma ∷ rest)
-
--- "A child of a node of kinds 3 to 6 has no name"; "then ` EMPTY`": the space before it
-unfoldable pub putHead : Visit → List ℕ → List ℕ
-putHead v rest = cond (not (isFree (v .parent .kind))) rest (putName (v .kind) (putDimension (v .dimension) (cond (eqb (v .parts) 0) (space ∷ rest) rest)))
-
 -- "` EMPTY`, or the parts in parentheses with `,` between and no blank": where the children follow, only the parenthesis that opens
 unfoldable pub putBody : List ℕ → List ℕ → Visit → List ℕ → List ℕ
 putBody text numbers v rest =

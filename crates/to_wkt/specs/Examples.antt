@@ -19,7 +19,8 @@ use Rattle.nodes.specs.Nodes.{isAllowed, childKind}
 use Rattle.shape.specs.Numbers.{textAt, areNumbers}
 use Rattle.shape.specs.Store.{areWhole, treeOf, walkOf}
 use Rattle.shape.specs.Visits.{walkEach, walkParts}
-use Rattle.to_wkt.specs.Canonical.{storeText, putNumber, putSpaced, putCoordinate, putListed, putCoordinates, putName, putComma, putHead, putBody, putNode, putMet, putAll}
+use Rattle.pieces.specs.Canonical.{putNumber, putName, putComma, putHead}
+use Rattle.to_wkt.specs.Canonical.{storeText, putSpaced, putCoordinate, putListed, putCoordinates, putBody, putNode, putMet, putAll}
 use Rattle.to_wkt.specs.Write.{outputOf}
 
 -- `POINT(++4 +-4)` as it is read: its spans are 7,2 and 11,2

@@ -3,38 +3,15 @@ ghost use mathlib.Core.Path.{_≡_};
 ghost use mathlib.Core.List.{_∷_};
 ghost use lib.ListN.{length};
 ghost use Rattle.scan.specs.Bytes.{parenOpen};
-ghost use Rattle.scan.specs.Front.{begins};
-ghost use Rattle.names.specs.Letters.{isLetter};
 ghost use Rattle.pen.specs.Pen.{Emits};
-ghost use Rattle.canonical_text.specs.Canonical.{needsPlus, putDimension};
 ghost use Rattle.walk.specs.Walk.{NumbersIn};
 ghost use Rattle.shape.specs.Walk.{wholeWalk};
 ghost use Rattle.store.specs.Rows.{numberRoom};
-ghost use Rattle.to_wkt.specs.Canonical.{putNumber, putCoordinate, putCoordinates, putName, putComma, putHead, putBody, putNode};
+ghost use Rattle.to_wkt.specs.Canonical.{putCoordinate, putCoordinates, putBody, putNode};
 ghost use Rattle.to_wkt.specs.Write.{HasCoordinate, HasCoordinates, Written};
 ghost use Rattle.to_wkt.specs.Put.{PutRows};
-use kinds::DIM_XY;
-use kinds::DIM_XYM;
-use kinds::DIM_XYZ;
-use kinds::DIM_XYZM;
-use kinds::KIND_GEOMETRYCOLLECTION;
 use kinds::KIND_LINESTRING;
-use kinds::KIND_MULTILINESTRING;
-use kinds::KIND_MULTIPOINT;
-use kinds::KIND_MULTIPOLYGON;
-use kinds::KIND_POINT;
-use kinds::KIND_POLYGON;
 use names::EMPTY;
-use names::GEOMETRYCOLLECTION;
-use names::LINESTRING;
-use names::M;
-use names::MULTILINESTRING;
-use names::MULTIPOINT;
-use names::MULTIPOLYGON;
-use names::POINT;
-use names::POLYGON;
-use names::Z;
-use names::ZM;
 use nodes::Met;
 use nodes::Visit;
 use pen::Pen;
@@ -47,40 +24,6 @@ use walk::CELLS;
 struct PutAnswer {
     ill: bool,
     pen: Pen,
-}
-
-// An ASCII letter.
-fn is_letter(b: u8) -> bool
-    ensures { λ r. ⌜ r ≡ isLetter b ⌝ }
-{
-    let upper = words::to_upper(b);
-    (b'A' <= upper) & (upper <= b'Z')
-}
-
-// Whether a number's text begins with `+` or a letter: read without one more `+`, it would lose the one or be a word.
-fn needs_plus(w: &[u8]) -> bool
-    ensures { λ r. ⌜ r ≡ begins needsPlus (now (w .entry)) ⌝ }
-{
-    if w.len() == 0 {
-        return false;
-    }
-    let b = w[0];
-    if b < b'A' {
-        return b == b'+';
-    }
-    is_letter(b)
-}
-
-// A number, after the byte `lead`.
-fn put_number(out: &mut [u8], p: Pen, lead: u8, text: &[u8], numbers: &[u32], i: usize) -> Pen
-    ensures { λ r. ⌜ Emits (λ rest. lead ∷ putNumber (now (text .entry)) (now (numbers .entry)) i rest) p (now (out .entry)) r (now (out .exit)) ⌝ }
-{
-    let w = shape::number_text(text, numbers, i);
-    if needs_plus(w) {
-        let q = pen::put_byte(out, p, lead);
-        return pen::put_led(out, q, b'+', w);
-    }
-    pen::put_led(out, p, lead, w)
 }
 
 // `width` numbers from `first` on, separated by blanks, after the byte `lead`.
@@ -100,7 +43,7 @@ fn put_coordinate(
     let mut before = lead;
     let mut i = 0;
     while i < width {
-        q = put_number(out, q, before, text, numbers, first + i);
+        q = pieces::put_number(out, q, before, text, numbers, first + i);
         before = b' ';
         i += 1;
     }
@@ -133,62 +76,6 @@ fn put_coordinates(
     q
 }
 
-fn put_name(out: &mut [u8], p: Pen, kind: u32) -> Pen
-    ensures { λ r. ⌜ Emits (putName kind) p (now (out .entry)) r (now (out .exit)) ⌝ }
-{
-    match kind {
-        KIND_POINT => pen::put(out, p, &POINT),
-        KIND_LINESTRING => pen::put(out, p, &LINESTRING),
-        KIND_POLYGON => pen::put(out, p, &POLYGON),
-        KIND_MULTIPOINT => pen::put(out, p, &MULTIPOINT),
-        KIND_MULTILINESTRING => pen::put(out, p, &MULTILINESTRING),
-        KIND_MULTIPOLYGON => pen::put(out, p, &MULTIPOLYGON),
-        KIND_GEOMETRYCOLLECTION => pen::put(out, p, &GEOMETRYCOLLECTION),
-        _ => p,
-    }
-}
-
-// A blank and the ending, if the dimension has one.
-fn put_dimension(out: &mut [u8], p: Pen, dimension: u32) -> Pen
-    ensures { λ r. ⌜ Emits (putDimension dimension) p (now (out .entry)) r (now (out .exit)) ⌝ }
-{
-    if dimension == DIM_XY {
-        return p;
-    }
-    let q = pen::put_byte(out, p, b' ');
-    match dimension {
-        DIM_XYZ => pen::put(out, q, &Z),
-        DIM_XYM => pen::put(out, q, &M),
-        DIM_XYZM => pen::put(out, q, &ZM),
-        _ => q,
-    }
-}
-
-// The comma before every child but the first.
-fn put_comma(out: &mut [u8], p: Pen, v: Visit) -> Pen
-    ensures { λ r. ⌜ Emits (putComma v) p (now (out .entry)) r (now (out .exit)) ⌝ }
-{
-    if v.parent.next == 0 {
-        return p;
-    }
-    pen::put_byte(out, p, b',')
-}
-
-// The name and the dimension of a node at the root or in a collection, and the blank before its EMPTY.
-fn put_head(out: &mut [u8], p: Pen, v: Visit) -> Pen
-    ensures { λ r. ⌜ Emits (putHead v) p (now (out .entry)) r (now (out .exit)) ⌝ }
-{
-    if !nodes::is_free(v.parent.kind) {
-        return p;
-    }
-    let name = put_name(out, p, v.kind);
-    let head = put_dimension(out, name, v.dimension);
-    if v.parts == 0 {
-        return pen::put_byte(out, head, b' ');
-    }
-    head
-}
-
 // EMPTY, or the parenthesis that opens and, of kinds 1 and 2, the coordinates and the one that closes.
 fn put_body(out: &mut [u8], p: Pen, text: &[u8], numbers: &[u32], v: Visit) -> Pen
     requires { ⌜ NumbersIn (numberRoom (now numbers)) v ⌝ }
@@ -215,8 +102,8 @@ fn put_node(out: &mut [u8], p: Pen, text: &[u8], numbers: &[u32], v: Visit) -> P
     if p.full {
         return p;
     }
-    let comma = put_comma(out, p, v);
-    let head = put_head(out, comma, v);
+    let comma = pieces::put_comma(out, p, v);
+    let head = pieces::put_head(out, comma, v);
     put_body(out, head, text, numbers, v)
 }
 

@@ -17,7 +17,7 @@ use Rattle.lists.proofs.One.{one}
 use Rattle.rooms.specs.Rooms.{enoughRows}
 use Rattle.strict.specs.Strict.{strictOf}
 use Rattle.infer_type.specs.Infer.{inferType}
-use Rattle.wkt_c.specs.Answers.{strictPlaces, inferPlaces, ReadsInto, WritesInto}
+use Rattle.c_answers.specs.Answers.{strictPlaces, inferPlaces, ReadsInto, WritesInto}
 
 pub doorhollow_enough_rows-one : (bytes : ℕ) → One (λ r. r ≡ enoughRows bytes)
 doorhollow_enough_rows-one bytes = one

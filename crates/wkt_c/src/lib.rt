@@ -9,32 +9,11 @@ ghost use Rattle.to_wkt.specs.Canonical.{storeText};
 ghost use Rattle.to_wkt.specs.Write.{outputOf};
 ghost use Rattle.stored_form.specs.Form.{version1, storedOf};
 ghost use Rattle.stored_form.specs.Reading.{readingOf};
-ghost use Rattle.wkt_c.specs.Answers.{ReadsInto, WritesInto, readPlaces, writePlaces, strictPlaces, inferPlaces};
-use store::ReadAnswer;
-use store::WriteAnswer;
+ghost use Rattle.c_answers.specs.Answers.{ReadsInto, WritesInto, strictPlaces, inferPlaces};
 ghost use Rattle.rooms.specs.Rooms.{enoughRows};
 ghost use Rattle.strict.specs.Strict.{strictOf};
 ghost use Rattle.infer_type.specs.Infer.{inferType};
-
-// How many places an answer has. Those that an entry has no use for are zero.
-const ANSWER_PLACES: usize = 4;
-
-fn read_places(a: ReadAnswer) -> [u64; ANSWER_PLACES]
-    ensures { λ r. ⌜ r ≡ readPlaces a ⌝ }
-{
-    [
-        a.number as u64,
-        a.place as u64,
-        a.nodes as u64,
-        a.numbers as u64,
-    ]
-}
-
-fn write_places(a: WriteAnswer) -> [u64; ANSWER_PLACES]
-    ensures { λ r. ⌜ r ≡ writePlaces a ⌝ }
-{
-    [a.number as u64, a.place as u64, a.length as u64, 0]
-}
+use c_answers::ANSWER_PLACES;
 
 // `rooms::enough_rows`: lent so many node rows and so many number rows, `doorhollow_read` answers neither 3 nor 4.
 #[no_mangle]
@@ -55,7 +34,7 @@ pub extern "C" fn doorhollow_read(
     ensures { λ _. ⌜ ReadsInto (outcomeOf (reading (nodeRoom (now (nodes .entry))) (numberRoom (now (numbers .entry))) (now (text .entry)))) (now (nodes .entry)) (now (numbers .entry)) (now (nodes .exit)) (now (numbers .exit)) (now (answer .exit)) ⌝ }
 {
     let a = wkt::read(text, nodes, numbers);
-    *answer = read_places(a);
+    *answer = c_answers::read_places(a);
 }
 
 // `to_wkt::write`. The answer is number, place, length.
@@ -70,7 +49,7 @@ pub extern "C" fn doorhollow_write(
     ensures { λ _. ⌜ WritesInto (outputOf (storeText (now (text .entry)) (now (nodes .entry)) (now (numbers .entry)))) (length (now (out .entry))) (now (out .exit)) (now (answer .exit)) ⌝ }
 {
     let a = to_wkt::write(text, nodes, numbers, out);
-    *answer = write_places(a);
+    *answer = c_answers::write_places(a);
 }
 
 // `stored::read`, of version 1. The answer is number, place, node count, number count.
@@ -84,7 +63,7 @@ pub extern "C" fn doorhollow_read_stored_1(
     ensures { λ _. ⌜ ReadsInto (readingOf version1 (nodeRoom (now (nodes .entry))) (numberRoom (now (numbers .entry))) (now (bytes .entry))) (now (nodes .entry)) (now (numbers .entry)) (now (nodes .exit)) (now (numbers .exit)) (now (answer .exit)) ⌝ }
 {
     let a = stored::read(bytes, nodes, numbers);
-    *answer = read_places(a);
+    *answer = c_answers::read_places(a);
 }
 
 // `stored::write`, of version 1. The answer is number, place, length.
@@ -99,7 +78,7 @@ pub extern "C" fn doorhollow_write_stored_1(
     ensures { λ _. ⌜ WritesInto (storedOf version1 (now (text .entry)) (now (nodes .entry)) (now (numbers .entry))) (length (now (out .entry))) (now (out .exit)) (now (answer .exit)) ⌝ }
 {
     let a = stored::write(text, nodes, numbers, out);
-    *answer = write_places(a);
+    *answer = c_answers::write_places(a);
 }
 
 // `strict::strict`. The answer is number, letter, node row.
@@ -113,7 +92,7 @@ pub extern "C" fn doorhollow_strict(
     ensures { λ _. ⌜ now (answer .exit) ≡ strictPlaces (strictOf (now (text .entry)) (now (nodes .entry)) (now (numbers .entry))) ⌝ }
 {
     let a = strict::strict(text, nodes, numbers);
-    *answer = [a.number as u64, a.letter as u64, a.row as u64, 0];
+    *answer = c_answers::strict_places(a);
 }
 
 // `infer_type::infer_type`. The answer is number, place, kind, dimension.
@@ -122,10 +101,5 @@ pub extern "C" fn doorhollow_infer_type(text: &[u8], answer: &mut [u64; ANSWER_P
     ensures { λ _. ⌜ now (answer .exit) ≡ inferPlaces (inferType (now (text .entry))) ⌝ }
 {
     let a = infer_type::infer_type(text);
-    *answer = [
-        a.number as u64,
-        a.place as u64,
-        a.kind as u64,
-        a.dimension as u64,
-    ];
+    *answer = c_answers::infer_places(a);
 }

@@ -5,6 +5,7 @@ use native.Mathlib.Omega.{arith}
 use borrow.Author.Needs.{needs}
 use Rattle.pen.specs.Pen.{Owes}
 use Rattle.pen.proofs.Puts.{emits-as, owes-same, owes-on, owes-end}
+use Rattle.pieces.proofs.Pieces.{number-emits}
 use Rattle.to_wkt.proofs.Canonical.{ledNumbers, numbers-on, numbers-end, numbers-all}
 use Rattle.to_wkt.proofs.put_coordinate.Statement.{statement}
 use Rattle.to_wkt.proofs.put_coordinate.Tie as tie
@@ -31,7 +32,7 @@ loop-less : tie.Need-loop-less Inv-loop μ-loop
 loop-less c = search needs
 
 loop-again : tie.Need-loop-again Inv-loop μ-loop
-loop-again c = owes-on (c .before .before .before .before .before .loop .inv) (c .before .before .put-number .ensures) (numbers-on _ _ _ _ _ _ (c .before .before .before .before .loop-test .taken))
+loop-again c = owes-on (c .before .before .before .before .before .loop .inv) (number-emits _ _ _ (c .before .before .put-number .ensures)) (numbers-on _ _ _ _ _ _ (c .before .before .before .before .loop-test .taken))
 
 same-length : tie.Need-same-length Inv-loop μ-loop
 same-length c = c .before .loop .inv .same

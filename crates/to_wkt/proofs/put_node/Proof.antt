@@ -3,6 +3,7 @@
 use mathlib.Core.Path.{refl}
 use borrow.Author.Needs.{needs}
 use Rattle.pen.proofs.Puts.{emits-then, emits-as}
+use Rattle.pieces.proofs.Pieces.{comma-emits, head-emits}
 use Rattle.to_wkt.specs.Canonical.{putNode}
 use Rattle.to_wkt.proofs.PutByWalk.{emits-full}
 use Rattle.to_wkt.proofs.put_node.Statement.{statement}
@@ -25,7 +26,7 @@ same-length c = search needs
 
 returns-2 : tie.Need-returns-2
 unfolding putNode
-returns-2 c = emits-as (emits-then (c .before .before .before .before .before .before .before .before .before .before .put-comma .ensures) (emits-then (c .before .before .before .before .before .before .put-head .ensures) (c .before .before .put-body .ensures))) (λ rest. refl)
+returns-2 c = emits-as (emits-then (comma-emits _ (c .before .before .before .before .before .before .before .before .before .before .put-comma .ensures)) (emits-then (head-emits _ (c .before .before .before .before .before .before .put-head .ensures)) (c .before .before .put-body .ensures))) (λ rest. refl)
 
 pub put-node-spec : {M : Type 1} → statement M
 put-node-spec =

@@ -1,12 +1,12 @@
--- `to_wkt::put_name` meets its contract: a kind at a time.
+-- `pieces::put_name` meets its contract: a kind at a time.
 -- Assumes nothing.
 use borrow.Author.Needs.{needs}
-use Rattle.pen.proofs.Puts.{emits, emits-as, owes-same}
 use Rattle.canonical_text.specs.Canonical.{stringOf}
-use Rattle.to_wkt.specs.Canonical.{putName}
-use Rattle.to_wkt.proofs.Canonical.{no-name}
-use Rattle.to_wkt.proofs.put_name.Statement.{statement}
-use Rattle.to_wkt.proofs.put_name.Tie as tie
+use Rattle.pieces.specs.Pieces.{wordPieces, namePieces}
+use Rattle.pieces.proofs.Canonical.{no-name}
+use Rattle.pieces.proofs.Pieces.{puts-none, puts-one, puts-as}
+use Rattle.pieces.proofs.put_name.Statement.{statement}
+use Rattle.pieces.proofs.put_name.Tie as tie
 
 slice-aggregate-put : tie.Need-slice-aggregate-put
 slice-aggregate-put c = search needs
@@ -54,56 +54,56 @@ same-length : tie.Need-same-length
 same-length c = search needs
 
 returns : tie.Need-returns
-unfolding putName stringOf
-returns c = emits-as (emits (c .before .before .put .ensures)) (λ rest. rw (c .before .before .before .before .before .match .keys1))
+unfolding namePieces wordPieces stringOf
+returns c = puts-as (puts-one (c .before .before .put .ensures)) (rw (c .before .before .before .before .before .match .keys1))
 
 same-length-2 : tie.Need-same-length-2
 same-length-2 c = search needs
 
 returns-2 : tie.Need-returns-2
-unfolding putName stringOf
-returns-2 c = emits-as (emits (c .before .before .put2 .ensures)) (λ rest. rw (c .before .before .before .before .before .match .keys2))
+unfolding namePieces wordPieces stringOf
+returns-2 c = puts-as (puts-one (c .before .before .put2 .ensures)) (rw (c .before .before .before .before .before .match .keys2))
 
 same-length-3 : tie.Need-same-length-3
 same-length-3 c = search needs
 
 returns-3 : tie.Need-returns-3
-unfolding putName stringOf
-returns-3 c = emits-as (emits (c .before .before .put3 .ensures)) (λ rest. rw (c .before .before .before .before .before .match .keys3))
+unfolding namePieces wordPieces stringOf
+returns-3 c = puts-as (puts-one (c .before .before .put3 .ensures)) (rw (c .before .before .before .before .before .match .keys3))
 
 same-length-4 : tie.Need-same-length-4
 same-length-4 c = search needs
 
 returns-4 : tie.Need-returns-4
-unfolding putName stringOf
-returns-4 c = emits-as (emits (c .before .before .put4 .ensures)) (λ rest. rw (c .before .before .before .before .before .match .keys4))
+unfolding namePieces wordPieces stringOf
+returns-4 c = puts-as (puts-one (c .before .before .put4 .ensures)) (rw (c .before .before .before .before .before .match .keys4))
 
 same-length-5 : tie.Need-same-length-5
 same-length-5 c = search needs
 
 returns-5 : tie.Need-returns-5
-unfolding putName stringOf
-returns-5 c = emits-as (emits (c .before .before .put5 .ensures)) (λ rest. rw (c .before .before .before .before .before .match .keys5))
+unfolding namePieces wordPieces stringOf
+returns-5 c = puts-as (puts-one (c .before .before .put5 .ensures)) (rw (c .before .before .before .before .before .match .keys5))
 
 same-length-6 : tie.Need-same-length-6
 same-length-6 c = search needs
 
 returns-6 : tie.Need-returns-6
-unfolding putName stringOf
-returns-6 c = emits-as (emits (c .before .before .put6 .ensures)) (λ rest. rw (c .before .before .before .before .before .match .keys6))
+unfolding namePieces wordPieces stringOf
+returns-6 c = puts-as (puts-one (c .before .before .put6 .ensures)) (rw (c .before .before .before .before .before .match .keys6))
 
 same-length-7 : tie.Need-same-length-7
 same-length-7 c = search needs
 
 returns-7 : tie.Need-returns-7
-unfolding putName stringOf
-returns-7 c = emits-as (emits (c .before .before .put7 .ensures)) (λ rest. rw (c .before .before .before .before .before .match .keys7))
+unfolding namePieces wordPieces stringOf
+returns-7 c = puts-as (puts-one (c .before .before .put7 .ensures)) (rw (c .before .before .before .before .before .match .keys7))
 
 returns-8 : tie.Need-returns-8
-unfolding putName
+unfolding namePieces wordPieces
 returns-8 c =
     let r = c .match .rest in
-    emits-as (owes-same _ _ _) (λ rest. rw (no-name _ (r .0 .0 .0 .0 .0 .0 .1) (r .0 .0 .0 .0 .0 .1) (r .0 .0 .0 .0 .1) (r .0 .0 .0 .1) (r .0 .0 .1) (r .0 .1) (r .1)))
+    puts-as (puts-none _ _) (rw (no-name _ (r .0 .0 .0 .0 .0 .0 .1) (r .0 .0 .0 .0 .0 .1) (r .0 .0 .0 .0 .1) (r .0 .0 .0 .1) (r .0 .0 .1) (r .0 .1) (r .1)))
 
 pub put-name-spec : {M : Type 1} → statement M
 put-name-spec =

@@ -1,8 +1,8 @@
--- `to_wkt::is_letter` meets its contract: by what `to_upper` tells.
+-- `pieces::is_letter` meets its contract: by what `to_upper` tells.
 -- Assumes nothing.
 use borrow.Author.Needs.{needs}
-use Rattle.to_wkt.proofs.is_letter.Statement.{statement}
-use Rattle.to_wkt.proofs.is_letter.Tie as tie
+use Rattle.pieces.proofs.is_letter.Statement.{statement}
+use Rattle.pieces.proofs.is_letter.Tie as tie
 
 to-upper-requires : tie.Need-to-upper-requires
 to-upper-requires c κs = search needs

@@ -1,10 +1,10 @@
--- `to_wkt::needs_plus` meets its contract: by whether the first byte lies before the letters.
+-- `pieces::needs_plus` meets its contract: by whether the first byte lies before the letters.
 -- Assumes nothing.
 use mathlib.Core.Path.{_∙_}
 use borrow.Author.Needs.{needs}
-use Rattle.to_wkt.proofs.Canonical.{plus-none, plus-low, plus-high}
-use Rattle.to_wkt.proofs.needs_plus.Statement.{statement}
-use Rattle.to_wkt.proofs.needs_plus.Tie as tie
+use Rattle.pieces.proofs.Canonical.{plus-none, plus-low, plus-high}
+use Rattle.pieces.proofs.needs_plus.Statement.{statement}
+use Rattle.pieces.proofs.needs_plus.Tie as tie
 
 returns : tie.Need-returns
 returns c = plus-none _ (c .if1 .taken)

@@ -6,7 +6,7 @@ use Rattle.store.specs.declared.ReadAnswer.{ReadAnswer}
 use Rattle.store.specs.declared.WriteAnswer.{WriteAnswer}
 use Rattle.strict.specs.declared.StrictAnswer.{StrictAnswer}
 use Rattle.infer_type.specs.declared.Inferred.{Inferred}
-use Rattle.wkt_c.specs.Answers.{readPlaces, writePlaces, strictPlaces, inferPlaces}
+use Rattle.c_answers.specs.Answers.{readPlaces, writePlaces, strictPlaces, inferPlaces}
 
 -- "The reader answers number, place, node count, number count"
 readAnswer : ReadAnswer

@@ -1,0 +1,120 @@
+// Canonical text that is put in one go: a number, the comma before a child, and a node's name with its dimension.
+ghost use mathlib.Core.Path.{_≡_};
+ghost use Rattle.scan.specs.Front.{begins};
+ghost use Rattle.names.specs.Letters.{isLetter};
+ghost use Rattle.canonical_text.specs.Canonical.{needsPlus};
+ghost use Rattle.shape.specs.Numbers.{textAt};
+ghost use Rattle.pieces.specs.Pieces.{PutsEach, numberPieces, namePieces, dimensionPieces, commaPieces, headPieces};
+use kinds::DIM_XY;
+use kinds::DIM_XYM;
+use kinds::DIM_XYZ;
+use kinds::DIM_XYZM;
+use kinds::KIND_GEOMETRYCOLLECTION;
+use kinds::KIND_LINESTRING;
+use kinds::KIND_MULTILINESTRING;
+use kinds::KIND_MULTIPOINT;
+use kinds::KIND_MULTIPOLYGON;
+use kinds::KIND_POINT;
+use kinds::KIND_POLYGON;
+use names::GEOMETRYCOLLECTION;
+use names::LINESTRING;
+use names::M;
+use names::MULTILINESTRING;
+use names::MULTIPOINT;
+use names::MULTIPOLYGON;
+use names::POINT;
+use names::POLYGON;
+use names::Z;
+use names::ZM;
+use nodes::Visit;
+use pen::Pen;
+
+// An ASCII letter.
+fn is_letter(b: u8) -> bool
+    ensures { λ r. ⌜ r ≡ isLetter b ⌝ }
+{
+    let upper = words::to_upper(b);
+    (b'A' <= upper) & (upper <= b'Z')
+}
+
+// Whether a number's text begins with `+` or a letter: read without one more `+`, it would lose the one or be a word.
+fn needs_plus(w: &[u8]) -> bool
+    ensures { λ r. ⌜ r ≡ begins needsPlus (now (w .entry)) ⌝ }
+{
+    if w.len() == 0 {
+        return false;
+    }
+    let b = w[0];
+    if b < b'A' {
+        return b == b'+';
+    }
+    is_letter(b)
+}
+
+// A number, after the byte `lead`.
+pub fn put_number(out: &mut [u8], p: Pen, lead: u8, text: &[u8], numbers: &[u32], i: usize) -> Pen
+    ensures { λ r. ⌜ PutsEach (numberPieces lead (textAt (now (text .entry)) (now (numbers .entry)) i)) p (now (out .entry)) r (now (out .exit)) ⌝ }
+{
+    let w = shape::number_text(text, numbers, i);
+    if needs_plus(w) {
+        let q = pen::put_byte(out, p, lead);
+        return pen::put_led(out, q, b'+', w);
+    }
+    pen::put_led(out, p, lead, w)
+}
+
+fn put_name(out: &mut [u8], p: Pen, kind: u32) -> Pen
+    ensures { λ r. ⌜ PutsEach (namePieces kind) p (now (out .entry)) r (now (out .exit)) ⌝ }
+{
+    match kind {
+        KIND_POINT => pen::put(out, p, &POINT),
+        KIND_LINESTRING => pen::put(out, p, &LINESTRING),
+        KIND_POLYGON => pen::put(out, p, &POLYGON),
+        KIND_MULTIPOINT => pen::put(out, p, &MULTIPOINT),
+        KIND_MULTILINESTRING => pen::put(out, p, &MULTILINESTRING),
+        KIND_MULTIPOLYGON => pen::put(out, p, &MULTIPOLYGON),
+        KIND_GEOMETRYCOLLECTION => pen::put(out, p, &GEOMETRYCOLLECTION),
+        _ => p,
+    }
+}
+
+// A blank and the ending, if the dimension has one.
+fn put_dimension(out: &mut [u8], p: Pen, dimension: u32) -> Pen
+    ensures { λ r. ⌜ PutsEach (dimensionPieces dimension) p (now (out .entry)) r (now (out .exit)) ⌝ }
+{
+    if dimension == DIM_XY {
+        return p;
+    }
+    let q = pen::put_byte(out, p, b' ');
+    match dimension {
+        DIM_XYZ => pen::put(out, q, &Z),
+        DIM_XYM => pen::put(out, q, &M),
+        DIM_XYZM => pen::put(out, q, &ZM),
+        _ => q,
+    }
+}
+
+// The comma before every child but the first.
+pub fn put_comma(out: &mut [u8], p: Pen, v: Visit) -> Pen
+    ensures { λ r. ⌜ PutsEach (commaPieces v) p (now (out .entry)) r (now (out .exit)) ⌝ }
+{
+    if v.parent.next == 0 {
+        return p;
+    }
+    pen::put_byte(out, p, b',')
+}
+
+// The name and the dimension of a node at the root or in a collection, and the blank before its EMPTY.
+pub fn put_head(out: &mut [u8], p: Pen, v: Visit) -> Pen
+    ensures { λ r. ⌜ PutsEach (headPieces v) p (now (out .entry)) r (now (out .exit)) ⌝ }
+{
+    if !nodes::is_free(v.parent.kind) {
+        return p;
+    }
+    let name = put_name(out, p, v.kind);
+    let head = put_dimension(out, name, v.dimension);
+    if v.parts == 0 {
+        return pen::put_byte(out, head, b' ');
+    }
+    head
+}
