@@ -20,14 +20,13 @@ use Rattle.tokenizer.specs.declared.Passed.{Passed}
 use Rattle.tokenizer.specs.declared.PassedOpen.{PassedOpen}
 use Rattle.tokenizer.specs.declared.Closes.{Closes}
 use Rattle.tokenizer.specs.Tokens.{numberAt, wordAt, startAt, tokenAt, readAt, takeHeld, takeAt, lookAt, cursorAt, read, badAt, passed, passComma, passedOpen, passOpen, closes, closesHeld, closesAt}
-use Rattle.tokenizer.specs.Stream.{Str, end, then, tok, none-tk, bad-tk, open-tk, close-tk, word-tk, number-tk, cons, toksBy, toks, stream}
 
 -- `POINT(++4 -4e x`, NUL, `)`
 text : List ℕ
 text = bytes "POINT(++4 -4e x" ++ 0 ∷ bytes ")"
 
 all : ℕ
-unfolding text run firstNot afterOneAt numberAt wordAt startAt tokenAt readAt takeHeld isNamed isDigits isExponent isDecimal isUnsigned isLexeme begins afterOne afterAll isNil sameWord cons toksBy toks stream passComma passOpen closesHeld
+unfolding text run firstNot afterOneAt numberAt wordAt startAt tokenAt readAt takeHeld isNamed isDigits isExponent isDecimal isUnsigned isLexeme begins afterOne afterAll isNil sameWord passComma passOpen closesHeld
 all = 0
 
 -- a word ends before its `(`, which is not taken
@@ -112,11 +111,6 @@ marks : (heldBefore (Held.Is 0 Comma) ≡ (passed true (cursorAt 1), stays (Held
     × (heldBefore (Held.NoToken 0) ≡ stays (Held.NoToken 0))
 unfolding all heldBefore stays
 marks = (refl, refl, refl, refl, refl, refl, refl)
-
--- the stream from 9 on
-tokens : stream text (cursorAt 9) ≡ then (tok 10 (bad-tk (record { number = 6; place = 10 }))) (then (tok 14 (word-tk (bytes "x"))) (then (tok 15 none-tk) (then (tok 16 close-tk) (end 17))))
-unfolding all
-tokens = refl
 
 -- ---- by the whole range of bytes
 -- the sorts of what is found, numbered as they stand here
