@@ -7,7 +7,8 @@ use Rattle.scan.specs.Front.{begins, afterOne, afterAll, isNil}
 use Rattle.scan.specs.Runs.{run, firstNot, afterOneAt}
 use Rattle.words.specs.Words.{sameWord}
 use Rattle.number.specs.Lexeme.{isNamed, isDigits, isExponent, isDecimal, isUnsigned, isLexeme}
-use Rattle.tokenizer.specs.Tokens.{numberAt, wordAt, startAt, tokenAt, readAt, cursorAt}
+use Rattle.token.specs.Tokens.{numberAt, wordAt, startAt, tokenAt, readAt}
+use Rattle.tokenizer.specs.Tokens.{cursorAt}
 use Rattle.token_stream.specs.Stream.{end, then, tok, none-tk, bad-tk, close-tk, word-tk, cons, toksBy, toks, stream}
 
 -- `POINT(++4 -4e x`, NUL, `)`

@@ -5,9 +5,9 @@ use mathlib.Core.Bool.{true}
 use mathlib.Core.List.{List}
 use lib.ListN.{length}
 use Rattle.number.specs.Lexeme.{isLexeme}
-use Rattle.tokenizer.specs.declared.Token.{Token}
-use Rattle.tokenizer.specs.declared.Token.the-variants.{Comma, Number, ParenClose, ParenOpen, Word}
-use Rattle.tokenizer.specs.declared.Found.{Found}
+use Rattle.token.specs.declared.Token.{Token}
+use Rattle.token.specs.declared.Token.the-variants.{Comma, Number, ParenClose, ParenOpen, Word}
+use Rattle.token.specs.declared.Found.{Found}
 use Rattle.tokenizer.specs.declared.Held.{Held}
 use Rattle.tokenizer.specs.declared.Cursor.{Cursor}
 use Rattle.token_stream.specs.Stream.{spanIn}

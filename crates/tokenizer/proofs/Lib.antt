@@ -1,3 +1,2 @@
-pub mod Tokens
 pub mod OneOutcome
 pub mod Marks

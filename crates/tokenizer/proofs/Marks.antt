@@ -11,12 +11,13 @@ use Rattle.lists.proofs.Cases.{and-both}
 use Rattle.scan.specs.Bytes.{parenOpen, parenClose, comma, isBlank}
 use Rattle.scan.specs.Runs.{firstNot}
 use Rattle.scan.proofs.Runs.{stop}
-use Rattle.tokenizer.specs.declared.Token.the-variants.{Comma, ParenClose, ParenOpen}
-use Rattle.tokenizer.specs.declared.Found.{Found}
+use Rattle.token.specs.declared.Token.the-variants.{Comma, ParenClose, ParenOpen}
+use Rattle.token.specs.declared.Found.{Found}
 use Rattle.tokenizer.specs.declared.Held.{Held}
 use Rattle.tokenizer.specs.declared.Cursor.{Cursor}
 use Rattle.tokenizer.specs.declared.Step.{Step}
-use Rattle.tokenizer.specs.Tokens.{step, startAt, tokenAt, readAt, cursorAt, takeHeld, takeAt, lookAt, isNothing, isComma, standsAt, passed, passBy, passComma, isOpen, placeIn, passedOpen, passOpenBy, passOpen, closes, closesHeld, closesAt}
+use Rattle.token.specs.Tokens.{startAt, tokenAt, readAt}
+use Rattle.tokenizer.specs.Tokens.{step, cursorAt, takeHeld, takeAt, lookAt, isNothing, isComma, standsAt, passed, passBy, passComma, isOpen, placeIn, passedOpen, passOpenBy, passOpen, closes, closesHeld, closesAt}
 
 pub held-nothing : (h : Held) → isNothing h ≡ true → h ≡ Held.Nothing
 held-nothing Held.Nothing y = refl
