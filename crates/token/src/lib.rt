@@ -1,4 +1,4 @@
-// The token that stands at a place of a text: `tokenizer.rs` of the Rust, but for `Peekable`.
+// The token that stands at a place of a text: what `tokenizer.rs` of the Rust reads with one call of `next`.
 use number::read_lexeme;
 use refusals::BAD_NUMBER;
 use scan::after_blank;

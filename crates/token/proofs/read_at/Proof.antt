@@ -1,4 +1,4 @@
--- `tokenizer::read_at` meets its contract.
+-- `token::read_at` meets its contract.
 -- Assumes nothing.
 use borrow.Author.Needs.{needs}
 use Rattle.token.proofs.read_at.Statement.{statement}

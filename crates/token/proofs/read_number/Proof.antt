@@ -1,4 +1,4 @@
--- `tokenizer::read_number` meets its contract.
+-- `token::read_number` meets its contract.
 -- Assumes nothing.
 use borrow.Author.Needs.{needs}
 use Rattle.token.proofs.read_number.Statement.{statement}

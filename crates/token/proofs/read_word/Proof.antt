@@ -1,4 +1,4 @@
--- `tokenizer::read_word` meets its contract.
+-- `token::read_word` meets its contract.
 -- Assumes nothing.
 use borrow.Author.Needs.{needs}
 use Rattle.token.proofs.read_word.Statement.{statement}
