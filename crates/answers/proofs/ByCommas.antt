@@ -8,8 +8,8 @@ use native.Mathlib.Omega.{arith}
 use lib.ListN.{length}
 use Rattle.tokenizer.specs.declared.Passed.{Passed}
 use Rattle.tokenizer.specs.Tokens.{cursorAt, passComma}
-use Rattle.tokenizer.specs.Stream.{size, stream}
-use Rattle.tokenizer.proofs.Stream.{stream-size}
+use Rattle.token_stream.specs.Stream.{size, stream}
+use Rattle.token_stream.proofs.Stream.{stream-size}
 use Rattle.store.specs.Rows.{nodeRoom, numberRoom, rowsIn, spansIn}
 use Rattle.grammar.specs.Asks.{ran, run}
 use Rattle.grammar.specs.Reading.{enough}

@@ -12,16 +12,16 @@ use lib.Dec.{eqb, ltb}
 use borrow.Author.Tests.{eq-eqb, ne-eqb, lt-ltb, le-ltb, ltb-true, ltb-false}
 use Rattle.lists.proofs.Cases.{either}
 use Rattle.refusals.specs.Refusals.{noNodeRow, notClosed}
-use Rattle.tokenizer.specs.declared.Token.{Token}
-use Rattle.tokenizer.specs.declared.Token.the-variants.{Comma, Number, ParenClose, ParenOpen, Word}
-use Rattle.tokenizer.specs.declared.Found.{Found}
+use Rattle.token.specs.declared.Token.{Token}
+use Rattle.token.specs.declared.Token.the-variants.{Comma, Number, ParenClose, ParenOpen, Word}
+use Rattle.token.specs.declared.Found.{Found}
 use Rattle.tokenizer.specs.declared.Cursor.{Cursor}
 use Rattle.tokenizer.specs.declared.Passed.{Passed}
-use Rattle.tokenizer.specs.declared.Refusal.{Refusal}
+use Rattle.token.specs.declared.Refusal.{Refusal}
 use Rattle.tokenizer.specs.Tokens.{cursorAt, takeAt, isCommaToken, isComma, passComma}
-use Rattle.tokenizer.specs.Stream.{hd, tl, tkIn, tokIn, stream}
-use Rattle.tokenizer.proofs.Stream.{take-head, take-tail, look-same}
-use Rattle.tokenizer.proofs.Marks.{take-free, comma-taken, other-held}
+use Rattle.token_stream.specs.Stream.{hd, tl, tkIn, tokIn, stream}
+use Rattle.token_stream.proofs.Stream.{take-head, take-tail, look-same}
+use Rattle.token_stream.proofs.Marks.{take-free, comma-taken, other-held}
 use Rattle.store.specs.Rows.{Row, Span, nodeRoom, rowsIn, closeIn}
 use Rattle.store.proofs.Rows.{rows-closed}
 use Rattle.grammar.specs.Asks.{ret, ask, ran, run}

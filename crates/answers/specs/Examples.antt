@@ -4,11 +4,12 @@ use mathlib.Core.List.{List, [], _∷_}
 use Prim.Native.Nat.{ℕ}
 use Rattle.scan.specs.Text.{bytes}
 use Rattle.scan.specs.Runs.{run, firstNot, afterOneAt}
-use Rattle.tokenizer.specs.declared.Token.{Token}
-use Rattle.tokenizer.specs.declared.Token.the-variants.{Comma, Number, ParenClose, ParenOpen, Word}
+use Rattle.token.specs.declared.Token.{Token}
+use Rattle.token.specs.declared.Token.the-variants.{Comma, Number, ParenClose, ParenOpen, Word}
 use Rattle.tokenizer.specs.declared.Held.{Held}
 use Rattle.tokenizer.specs.declared.Cursor.{Cursor}
-use Rattle.tokenizer.specs.Tokens.{startAt, tokenAt, readAt, takeHeld, cursorAt}
+use Rattle.token.specs.Tokens.{startAt, tokenAt, readAt}
+use Rattle.tokenizer.specs.Tokens.{takeHeld, cursorAt}
 use Rattle.store.specs.Rows.{Row, Span, put, closeRow}
 use Rattle.grammar.specs.Grammar.{out, ok, refused, halt, refusal}
 use Rattle.sorts.specs.Taken.{clipped, told, takenAt}

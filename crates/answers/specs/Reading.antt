@@ -9,7 +9,7 @@ use lib.ListN.{length}
 use Rattle.refusals.specs.Refusals.{noNodeRow, notClosed}
 use Rattle.tokenizer.specs.declared.Cursor.{Cursor}
 use Rattle.tokenizer.specs.Tokens.{cursorAt}
-use Rattle.tokenizer.specs.Stream.{Str, stream}
+use Rattle.token_stream.specs.Stream.{Str, stream}
 use Rattle.store.specs.Rows.{Row, Span, nodeRoom, numberRoom, rowsIn, spansIn, closeRow}
 use Rattle.grammar.specs.Asks.{P, bind, ran, run}
 use Rattle.grammar.specs.Tokens.{sortClose}

@@ -12,13 +12,14 @@ use lib.ListN.{length}
 use borrow.Author.Tests.{eqb-false, leb-true, leb-false}
 use Rattle.limits.specs.Limits.{textLimit, overLimit, depthLimit}
 use Rattle.utf8.specs.Utf8.{isUtf8, firstIll}
-use Rattle.tokenizer.specs.Lex.{lex}
-use Rattle.tokenizer.specs.Stream.{Tok, Str, toks}
-use Rattle.tokenizer.specs.declared.Found.{Found}
+use Rattle.token_stream.specs.Lex.{lex}
+use Rattle.token_stream.specs.Stream.{Tok, Str, toks}
+use Rattle.token.specs.declared.Found.{Found}
 use Rattle.tokenizer.specs.declared.Held.{Held}
-use Rattle.tokenizer.specs.declared.Refusal.{Refusal}
-use Rattle.tokenizer.specs.Tokens.{readAt, takeHeld, hold, step, cursorAt}
-use Rattle.tokenizer.proofs.Stream.{take-head, take-tail, look-head, look-same}
+use Rattle.token.specs.declared.Refusal.{Refusal}
+use Rattle.token.specs.Tokens.{readAt}
+use Rattle.tokenizer.specs.Tokens.{takeHeld, hold, step, cursorAt}
+use Rattle.token_stream.proofs.Stream.{take-head, take-tail, look-head, look-same}
 use Rattle.lists.proofs.Cases.{either}
 use Rattle.store.specs.Rows.{Row, nodeRoom, numberRoom, zeros, padded}
 use Rattle.store.proofs.Rows.{rows-length}

@@ -12,7 +12,7 @@ use Rattle.scan.specs.Text.{bytes}
 use Rattle.number.specs.Grammar.{Float}
 use Rattle.number.proofs.Equal.{sound}
 use Rattle.lists.specs.Lists.{every}
-use Rattle.tokenizer.proofs.Bridge.{toks-lex}
+use Rattle.token_stream.proofs.Bridge.{toks-lex}
 use Rattle.store.specs.Rows.{Row, Span, span, nodeWidth, numberWidth, nodeRoom, numberRoom, cell, partsAt, spanStartAt, flatRows, flatSpans, zeros, padded}
 use Rattle.lists.specs.Lists.{All}
 use Rattle.grammar.specs.Answers.{Passes}

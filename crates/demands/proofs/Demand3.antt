@@ -11,7 +11,7 @@ use lib.ListN.{length, getD, take, length-map}
 use borrow.Author.Tests.{leb-true}
 use Rattle.limits.specs.Limits.{textLimit, overLimit, depthLimit}
 use Rattle.utf8.specs.Utf8.{walk, firstIll, isUtf8}
-use Rattle.tokenizer.specs.declared.Refusal.{Refusal}
+use Rattle.token.specs.declared.Refusal.{Refusal}
 use Rattle.refusals.specs.Refusals.{illFormedStore, noRoom}
 use Rattle.store.specs.Rows.{Row, nodeOver, Span, flatRows, nodeWidth, nodeRoom, numberRoom, cell, firsts, rowsIn, spansIn, zeros}
 use Rattle.tree.specs.Tree.{Tree, rows, texts}
@@ -22,7 +22,7 @@ use Rattle.lists.specs.Lists.{every}
 use Rattle.tree.proofs.TreeIn.{tree-in, TreesOwn, trees-own}
 use Rattle.canonical_text.specs.Canonical.{separated, putNamed, stringOf, putDimension, putWith, canonicalText}
 use Rattle.scan.specs.Bytes.{nul}
-use Rattle.tokenizer.specs.Lex.{Lexed, markTk, flush, lexByte, lexRun, lex}
+use Rattle.token_stream.specs.Lex.{Lexed, markTk, flush, lexByte, lexRun, lex}
 use Rattle.grammar.specs.Asks.{bind, run, answerIn}
 use Rattle.grammar.specs.Grammar.{out, Got, ok, refused, halt, refusal, rootHead, geometryBy, geometry, root}
 use Rattle.grammar.specs.Reading.{enough, reading, treeRead}

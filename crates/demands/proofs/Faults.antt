@@ -15,15 +15,15 @@ use Rattle.scan.specs.Runs.{firstNot}
 use Rattle.scan.proofs.Runs.{first-fails}
 use Rattle.number.specs.Lexeme.{isLexeme}
 use Rattle.number.proofs.Equal.{passes, sound}
-use Rattle.tokenizer.specs.declared.Found.{Found}
-use Rattle.tokenizer.specs.declared.Read.{Read}
-use Rattle.tokenizer.specs.declared.Token.{Token}
-use Rattle.tokenizer.specs.declared.Token.the-variants.{Comma, Number, ParenClose, ParenOpen, Word}
-use Rattle.tokenizer.specs.Tokens.{endOf, textStart, numberOr, numberAt, wordAt, startAt, tokenAt, readAt}
-use Rattle.tokenizer.specs.Lex.{lex}
-use Rattle.tokenizer.specs.Stream.{open-tk, close-tk, comma-tk, none-tk, bad-tk, word-tk, number-tk, Tok, tok, Str, end, then, hd, tl, size, noneThen, cons, tokIn, toksBy, toks}
+use Rattle.token.specs.declared.Found.{Found}
+use Rattle.token.specs.declared.Read.{Read}
+use Rattle.token.specs.declared.Token.{Token}
+use Rattle.token.specs.declared.Token.the-variants.{Comma, Number, ParenClose, ParenOpen, Word}
+use Rattle.token.specs.Tokens.{endOf, textStart, numberOr, numberAt, wordAt, startAt, tokenAt, readAt}
+use Rattle.token_stream.specs.Lex.{lex}
+use Rattle.token_stream.specs.Stream.{open-tk, close-tk, comma-tk, none-tk, bad-tk, word-tk, number-tk, Tok, tok, Str, end, then, hd, tl, size, noneThen, cons, tokIn, toksBy, toks}
 use Rattle.lists.proofs.Cases.{either}
-use Rattle.tokenizer.proofs.Bridge.{toks-lex}
+use Rattle.token_stream.proofs.Bridge.{toks-lex}
 use Rattle.grammar.specs.Asks.{run}
 use Rattle.grammar.specs.Grammar.{root}
 use Rattle.grammar.specs.Reading.{enough}

@@ -13,10 +13,10 @@ use Rattle.limits.specs.Limits.{depthLimit}
 use Rattle.scan.specs.Bytes.{parenClose}
 use Rattle.store.specs.Rows.{Row, Span, nodeRoom, numberRoom, partsAt, flatRows, flatSpans, padded}
 use Rattle.store.proofs.Rows.{no-row-parts, first-parts}
-use Rattle.tokenizer.specs.Stream.{open-tk, close-tk, comma-tk, none-tk, bad-tk, word-tk, number-tk, Tok, tok, Str, hd, tl, tokIn}
-use Rattle.tokenizer.specs.Tokens.{readAt}
-use Rattle.tokenizer.specs.Lex.{lex}
-use Rattle.tokenizer.proofs.Bridge.{toks-lex}
+use Rattle.token_stream.specs.Stream.{open-tk, close-tk, comma-tk, none-tk, bad-tk, word-tk, number-tk, Tok, tok, Str, hd, tl, tokIn}
+use Rattle.token.specs.Tokens.{readAt}
+use Rattle.token_stream.specs.Lex.{lex}
+use Rattle.token_stream.proofs.Bridge.{toks-lex}
 use Rattle.grammar.specs.Answers.{Passes}
 use Rattle.grammar.specs.Asks.{P, ret, ask, look}
 use Rattle.grammar.specs.Grammar.{out, ok, root}

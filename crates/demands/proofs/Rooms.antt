@@ -21,10 +21,10 @@ use Rattle.names.specs.Names.{spellings, meaning, isEmptyWord}
 use Rattle.names.specs.Table.{isKnown}
 use Rattle.names.proofs.Table.{means-spelled}
 use Rattle.store.proofs.Rows.{closeIn-length}
-use Rattle.tokenizer.specs.Tokens.{badNumberAt}
-use Rattle.tokenizer.specs.Stream.{Tk, open-tk, close-tk, comma-tk, none-tk, bad-tk, word-tk, number-tk, Tok, tok, Str, end, then, hd, tl, toks}
-use Rattle.tokenizer.specs.Lex.{markTk, numberTk, runTk, Lexed, lexed, flush, push, lexByte, lexRun, lex}
-use Rattle.tokenizer.proofs.Bridge.{toks-lex}
+use Rattle.token.specs.Tokens.{badNumberAt}
+use Rattle.token_stream.specs.Stream.{Tk, open-tk, close-tk, comma-tk, none-tk, bad-tk, word-tk, number-tk, Tok, tok, Str, end, then, hd, tl, toks}
+use Rattle.token_stream.specs.Lex.{markTk, numberTk, runTk, Lexed, lexed, flush, push, lexByte, lexRun, lex}
+use Rattle.token_stream.proofs.Bridge.{toks-lex}
 use Rattle.grammar.specs.Grammar.{Out, out, fill, isEmptyTok}
 use Rattle.grammar.specs.Tokens.{sortNone, sortOpen, sortClose, sortComma, sortNumber, sortWord, tkSort, tkText, sortOf, placeOf, textOf}
 use Rattle.grammar.proofs.Tokens.{ToksIn, hd-in, tl-in, place-in, place-before, lex-in}

@@ -11,7 +11,7 @@ use Rattle.limits.specs.Limits.{overLimit}
 use Rattle.utf8.specs.Utf8.{isUtf8}
 use Rattle.tokenizer.specs.declared.Cursor.{Cursor}
 use Rattle.tokenizer.specs.declared.Step.{Step}
-use Rattle.tokenizer.specs.Stream.{Str, hd, tl, tokIn, toks, stream}
+use Rattle.token_stream.specs.Stream.{Str, hd, tl, tokIn, toks, stream}
 use Rattle.store.specs.Rows.{Row, Span, nodeRoom, numberRoom, flatRows, flatSpans, zeros, padded}
 use Rattle.infer_type.specs.declared.Inferred.{Inferred}
 use Rattle.refusals.specs.Refusals.{textTooLong, illFormedUtf8, unsupportedName, neitherParenNorEmpty, nonAscii}

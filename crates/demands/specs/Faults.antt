@@ -16,8 +16,8 @@ use Rattle.names.specs.declared.Name.{Name}
 use Rattle.names.specs.declared.Ending.{Ending}
 use Rattle.lists.specs.Lists.{every}
 use Rattle.names.specs.Names.{meaning, ending, isEmptyWord}
-use Rattle.tokenizer.specs.Tokens.{textStart, endOf}
-use Rattle.tokenizer.specs.Stream.{open-tk, close-tk, comma-tk, none-tk, bad-tk, word-tk, number-tk, Tok, tok, Str, hd, tl, toks}
+use Rattle.token.specs.Tokens.{textStart, endOf}
+use Rattle.token_stream.specs.Stream.{open-tk, close-tk, comma-tk, none-tk, bad-tk, word-tk, number-tk, Tok, tok, Str, hd, tl, toks}
 use Rattle.grammar.specs.Answers.{Passes}
 use Rattle.grammar.specs.Grammar.{isEmptyTok}
 use Rattle.demands.specs.Steps.{Stopping, Refusing}

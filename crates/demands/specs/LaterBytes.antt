@@ -5,7 +5,7 @@ use mathlib.Core.List.{List, _∷_, _++_}
 use Prim.Native.Nat.{ℕ}
 use lib.ListN.{length}
 use Rattle.scan.specs.Bytes.{parenClose}
-use Rattle.tokenizer.specs.Stream.{tok, close-tk}
+use Rattle.token_stream.specs.Stream.{tok, close-tk}
 use Rattle.store.specs.Rows.{nodeRoom, numberRoom, partsAt}
 use Rattle.grammar.specs.Answers.{Passes}
 use Rattle.grammar.specs.LastToken.{lastToken}

@@ -14,7 +14,7 @@ use Rattle.names.specs.declared.Name.{Name}
 use Rattle.names.specs.declared.Ending.{Ending}
 use Rattle.names.specs.Names.{meaning, ending, isEmptyWord}
 use Rattle.store.specs.Rows.{Row, freshRow, Span, span}
-use Rattle.tokenizer.specs.Stream.{Tok, Str, hd, tl}
+use Rattle.token_stream.specs.Stream.{Tok, Str, hd, tl}
 use Rattle.grammar.specs.Grammar.{Out, out, fill, isEmptyTok}
 use Rattle.grammar.specs.Tokens.{sortOpen, sortClose, sortComma, sortNumber, sortWord, sortOf, startOf, textOf}
 

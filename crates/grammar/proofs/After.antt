@@ -17,8 +17,8 @@ use Rattle.lists.specs.Lists.{every}
 use Rattle.names.specs.Names.{meaning, ending, isEmptyWord}
 use Rattle.limits.specs.Limits.{textLimit, overLimit, depthLimit}
 use Rattle.utf8.specs.Utf8.{isUtf8, firstIll}
-use Rattle.tokenizer.specs.Stream.{Tok, tok, none-tk, close-tk, Str, hd, tl}
-use Rattle.tokenizer.specs.Lex.{lex}
+use Rattle.token_stream.specs.Stream.{Tok, tok, none-tk, close-tk, Str, hd, tl}
+use Rattle.token_stream.specs.Lex.{lex}
 use Rattle.lists.proofs.Cases.{either}
 use Rattle.grammar.specs.Asks.{P, ret, ask, look, bind, run, answerIn}
 use Rattle.grammar.specs.Tokens.{sortNone, sortOpen, sortClose, sortWord, sortOf, placeOf, textOf}

@@ -3,8 +3,8 @@
 use mathlib.Core.Path.{_≡_, refl, ap, _∙_}
 use Prim.Native.Nat.{ℕ, _≤_}
 use native.Mathlib.Omega.{arith}
-use Rattle.tokenizer.specs.Stream.{Tok, Str, hd, tl, size}
-use Rattle.tokenizer.proofs.Stream.{size-tl}
+use Rattle.token_stream.specs.Stream.{Tok, Str, hd, tl, size}
+use Rattle.token_stream.proofs.Stream.{size-tl}
 use Rattle.grammar.specs.Asks.{P, ret, ask, look, bind, Ran, ran, run, leftIn}
 
 abbrev pub after : {A B : Type 0} → (A → P B) → Ran A → Ran B

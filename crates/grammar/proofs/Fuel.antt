@@ -21,13 +21,13 @@ use Rattle.utf8.specs.Utf8.{isUtf8}
 use Rattle.utf8.proofs.Walk.{in-text}
 use Rattle.store.specs.Rows.{Row, Span, span}
 use Rattle.store.proofs.Rows.{closeIn-length}
-use Rattle.tokenizer.specs.declared.Refusal.{Refusal}
-use Rattle.tokenizer.specs.Stream.{Tok, Str, end, then, hd, tl, size}
+use Rattle.token.specs.declared.Refusal.{Refusal}
+use Rattle.token_stream.specs.Stream.{Tok, Str, end, then, hd, tl, size}
 use Rattle.tokenizer.specs.Tokens.{cursorAt}
-use Rattle.tokenizer.specs.Lex.{lex}
-use Rattle.tokenizer.proofs.Stream.{size-tl, stream-size}
+use Rattle.token_stream.specs.Lex.{lex}
+use Rattle.token_stream.proofs.Stream.{size-tl, stream-size}
 use Rattle.lists.proofs.Cases.{either}
-use Rattle.tokenizer.proofs.Bridge.{toks-lex}
+use Rattle.token_stream.proofs.Bridge.{toks-lex}
 use Rattle.grammar.specs.Asks.{P, ret, ask, look, bind, Ran, ran, run, answerIn, leftIn}
 use Rattle.grammar.specs.Tokens.{sortOpen, sortClose, sortComma, sortNumber, sortWord, sortOf, placeOf, startOf, textOf}
 use Rattle.grammar.specs.Grammar.{Out, out, Got, ok, refused, halt, Head, opens, empty, wrong, refusal, andThen, fill, rowsUsed, items, closing, addNode, addNumber, number, thenNumber, ifAsked, coord, pointBody, opened, isEmptyTok, opening, opener, headerEnding, header, byName, childHead, rootHead, lineBody, parens, lineIn, lineOf, linesBody, polygonIn, polygonOf, polygonsBody, pointIn, barePoint, pointOf, pointsBody, multi, simple, geometryBy, childOf, collection, geometry, root}
@@ -325,7 +325,7 @@ module _ (text : List ℕ) (N M : ℕ) where
 
 -- a text has no more tokens than bytes, and one
 pub lex-size : (text : List ℕ) → size (lex 0 text) ≤ length text + 1
-unfolding Rattle.tokenizer.specs.Stream.stream
+unfolding Rattle.token_stream.specs.Stream.stream
 lex-size text = rw (toks-lex text) at (stream-size text (cursorAt 0))
 
 -- the tokens of a text, read with any two counts that are greater than there are tokens, come to the same

@@ -14,8 +14,8 @@ use Rattle.number.specs.Lexeme.{isLexeme}
 use Rattle.names.specs.Letters.{isLetter}
 use Rattle.lists.specs.Lists.{every}
 use Rattle.lists.proofs.Lists.{every-head, every-tail}
-use Rattle.tokenizer.specs.Stream.{open-tk, close-tk, comma-tk, word-tk, number-tk, tok, Str, end, then}
-use Rattle.tokenizer.specs.Lex.{markTk, numberTk, runTk, lexed, flush, push, lexByte, lexRun, lex}
+use Rattle.token_stream.specs.Stream.{open-tk, close-tk, comma-tk, word-tk, number-tk, tok, Str, end, then}
+use Rattle.token_stream.specs.Lex.{markTk, numberTk, runTk, lexed, flush, push, lexByte, lexRun, lex}
 use Rattle.canonical_text.specs.Canonical.{spell}
 use Rattle.grammar.proofs.Lexemes.{lexeme-inner, nil-lexeme, bare-first}
 

@@ -6,8 +6,8 @@ use Prim.Native.Nat.{ℕ, zero, suc, _+_, _≤_, _<_}
 use native.Mathlib.Omega.{arith}
 use lib.Dec.{eqb}
 use borrow.Author.Tests.{eq-eqb, ne-eqb}
-use Rattle.tokenizer.specs.declared.Refusal.{Refusal}
-use Rattle.tokenizer.specs.Stream.{Tok, Str, end, then, hd, tl, size}
+use Rattle.token.specs.declared.Refusal.{Refusal}
+use Rattle.token_stream.specs.Stream.{Tok, Str, end, then, hd, tl, size}
 use Rattle.grammar.specs.Asks.{P, ret, ask, look, ran, run}
 use Rattle.grammar.specs.Tokens.{sortNone, sortComma, sortOf}
 use Rattle.grammar.specs.Grammar.{Out, Got, ok, refused, halt, andThen, fill, items}

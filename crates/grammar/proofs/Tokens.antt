@@ -10,9 +10,9 @@ use lib.ListN.{length, drop, length-append, length-drop}
 use lib.Seq.{drop-drop, take-append-seam}
 use Rattle.scan.specs.Bytes.{nul, parenOpen, parenClose, plus, isBlank, isStop, isNumberlike}
 use Rattle.number.specs.Lexeme.{isLexeme}
-use Rattle.tokenizer.specs.Tokens.{badNumberAt}
-use Rattle.tokenizer.specs.Stream.{Tk, open-tk, close-tk, comma-tk, none-tk, bad-tk, word-tk, number-tk, Tok, tok, Str, end, then, hd, tl}
-use Rattle.tokenizer.specs.Lex.{markTk, numberTk, runTk, Lexed, lexed, flush, push, lexByte, lexRun, lex}
+use Rattle.token.specs.Tokens.{badNumberAt}
+use Rattle.token_stream.specs.Stream.{Tk, open-tk, close-tk, comma-tk, none-tk, bad-tk, word-tk, number-tk, Tok, tok, Str, end, then, hd, tl}
+use Rattle.token_stream.specs.Lex.{markTk, numberTk, runTk, Lexed, lexed, flush, push, lexByte, lexRun, lex}
 use Rattle.lists.proofs.Cases.{either}
 use Rattle.grammar.specs.Tokens.{sortNone, sortNumber, sortOf, placeOf, startOf, textOf, refusalAt}
 use Rattle.grammar.specs.Answers.{isRefusal, Refused}

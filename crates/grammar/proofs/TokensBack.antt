@@ -21,8 +21,8 @@ use Rattle.names.specs.Table.{isKnown}
 use Rattle.names.proofs.Letters.{name-lettered, name-nonempty, ending-lettered, empty-lettered}
 use Rattle.store.specs.Rows.{Row, freshRow, Span, span, closeIn}
 use Rattle.tree.proofs.Closed.{closed-rows}
-use Rattle.tokenizer.specs.Stream.{word-tk, tok, Str, then, hd, tl, size}
-use Rattle.tokenizer.specs.Lex.{lex}
+use Rattle.token_stream.specs.Stream.{word-tk, tok, Str, then, hd, tl, size}
+use Rattle.token_stream.specs.Lex.{lex}
 use Rattle.grammar.specs.Asks.{P, ret, ask, look, bind, ran, run, answerIn}
 use Rattle.grammar.specs.Tokens.{sortClose, sortComma, sortOf}
 use Rattle.grammar.specs.Grammar.{Out, out, Got, ok, opens, empty, wrong, refusal, andThen, items, closing, addNode, number, thenNumber, ifAsked, coord, pointBody, opened, opening, opener, headerEnding, header, byName, childHead, rootHead, lineBody, parens, lineIn, lineOf, linesBody, polygonIn, polygonOf, polygonsBody, pointIn, pointOf, pointsBody, multi, simple, geometryBy, childOf, collection, geometry, root}

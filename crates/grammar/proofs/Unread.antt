@@ -7,8 +7,8 @@ use Prim.Native.Nat.{ℕ, _+_, _≤_, _<_}
 use native.Mathlib.Omega.{arith}
 use lib.ListN.{length}
 use Rattle.scan.specs.Bytes.{parenClose, isBlank, isStop}
-use Rattle.tokenizer.specs.Stream.{Tok, tok, close-tk, Str, end, then, hd, tl}
-use Rattle.tokenizer.specs.Lex.{markTk, runTk, Lexed, lexed, flush, push, lexByte, lexRun, lex}
+use Rattle.token_stream.specs.Stream.{Tok, tok, close-tk, Str, end, then, hd, tl}
+use Rattle.token_stream.specs.Lex.{markTk, runTk, Lexed, lexed, flush, push, lexByte, lexRun, lex}
 use Rattle.lists.proofs.Cases.{either}
 use Rattle.grammar.specs.Asks.{P, ret, ask, look, run, answerIn}
 use Rattle.grammar.specs.Tokens.{placeOf}

@@ -20,8 +20,8 @@ use Rattle.store.specs.Rows.{Row, freshRow, Span, span, closeIn}
 use Rattle.tree.proofs.Closed.{closed-rows}
 use Rattle.limits.specs.Limits.{overLimit, depthLimit}
 use Rattle.utf8.specs.Utf8.{isUtf8}
-use Rattle.tokenizer.specs.Stream.{Tok, Str, hd, tl}
-use Rattle.tokenizer.specs.Lex.{lex}
+use Rattle.token_stream.specs.Stream.{Tok, Str, hd, tl}
+use Rattle.token_stream.specs.Lex.{lex}
 use Rattle.lists.proofs.Cases.{either}
 use Rattle.grammar.specs.Asks.{P, ret, ask, look, bind, run, answerIn}
 use Rattle.grammar.specs.Tokens.{sortOpen, sortClose, sortComma, sortNumber, sortWord, sortOf, placeOf, startOf, textOf}

@@ -9,7 +9,7 @@ use Rattle.limits.specs.Limits.{overLimit}
 use Rattle.refusals.specs.Refusals.{textTooLong, illFormedUtf8, noNodeRow, tooDeep, badNumber, noChild}
 use Rattle.utf8.specs.Utf8.{isUtf8}
 use Rattle.store.specs.Rows.{Row, Span}
-use Rattle.tokenizer.specs.declared.Refusal.{Refusal}
+use Rattle.token.specs.declared.Refusal.{Refusal}
 use Rattle.lists.specs.Lists.{All}
 use Rattle.tree.specs.TreeIn.{SpanIn}
 

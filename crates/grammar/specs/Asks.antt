@@ -1,6 +1,6 @@
 -- A reader as a thing that demands tokens: it takes the next token or looks at it, and in the end answers.
 use Prim.Native.Nat.{ℕ}
-use Rattle.tokenizer.specs.Stream.{Tok, Str, hd, tl}
+use Rattle.token_stream.specs.Stream.{Tok, Str, hd, tl}
 
 pub data P (A : Type 0) : Type 0 where
   ret : A → P A

@@ -13,7 +13,7 @@ use Rattle.kinds.specs.Kinds.{kindPoint, kindLineString, kindPolygon, kindMulti
 use Rattle.lists.specs.Lists.{every}
 use Rattle.names.specs.Names.{spellings, lookup, meaning, ending}
 use Rattle.store.specs.Rows.{Row, nodeOver, Span, span, closeIn}
-use Rattle.tokenizer.specs.Lex.{markTk, numberTk, runTk, flush, push, lexByte, lexRun, lex}
+use Rattle.token_stream.specs.Lex.{markTk, numberTk, runTk, flush, push, lexByte, lexRun, lex}
 use Rattle.utf8.specs.Utf8.{table, fits, firstFit, charWidth, walk, firstIll}
 use Rattle.grammar.specs.Asks.{bind, run}
 use Rattle.grammar.specs.Grammar.{Got, ok, refused, halt, out, refusal, andThen, items, closing, number, thenNumber, ifAsked, coord, pointBody, opened, opening, opener, header, childHead, rootHead, lineBody, parens, lineIn, lineOf, linesBody, polygonIn, polygonOf, polygonsBody, pointIn, barePoint, pointOf, pointsBody, multi, simple, geometryBy, childOf, collection, geometry, root}

@@ -12,8 +12,8 @@ use Rattle.scan.specs.Bytes.{isAscii}
 use Rattle.lists.specs.Lists.{every}
 use Rattle.refusals.specs.Refusals.{noNodeRow, noNumberRow, tooDeep, nonAsciiRoot, noRoot, unknownName, noHeader, unknownHeader, notOpened, notClosed, noX, noY, noZ, noM, noChild}
 use Rattle.store.specs.Rows.{Row, freshRow, Span, span, closeIn}
-use Rattle.tokenizer.specs.declared.Refusal.{Refusal}
-use Rattle.tokenizer.specs.Stream.{Tok, Str}
+use Rattle.token.specs.declared.Refusal.{Refusal}
+use Rattle.token_stream.specs.Stream.{Tok, Str}
 use Rattle.grammar.specs.Asks.{P, ret, ask, look, bind}
 use Rattle.grammar.specs.Tokens.{sortNone, sortBad, sortOpen, sortClose, sortComma, sortNumber, sortWord, sortOf, placeOf, startOf, textOf, refusalAt}
 

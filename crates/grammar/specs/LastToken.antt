@@ -2,8 +2,8 @@
 use Prim.Native.Nat.{ℕ}
 use mathlib.Core.List.{List, [], _∷_}
 use Rattle.limits.specs.Limits.{depthLimit}
-use Rattle.tokenizer.specs.Stream.{Tok, tok, none-tk, Str, hd, tl}
-use Rattle.tokenizer.specs.Lex.{lex}
+use Rattle.token_stream.specs.Stream.{Tok, tok, none-tk, Str, hd, tl}
+use Rattle.token_stream.specs.Lex.{lex}
 use Rattle.grammar.specs.Asks.{P, ret, ask, look}
 use Rattle.grammar.specs.Grammar.{Out, out, root}
 use Rattle.grammar.specs.Reading.{enough}

@@ -3,7 +3,7 @@ use mathlib.Core.Path.{_≡_, refl}
 use mathlib.Core.List.{List, []}
 use Prim.Native.Nat.{ℕ}
 use Rattle.scan.specs.Text.{bytes}
-use Rattle.tokenizer.specs.Stream.{tok, close-tk, word-tk, none-tk}
+use Rattle.token_stream.specs.Stream.{tok, close-tk, word-tk, none-tk}
 use Rattle.grammar.specs.Edges.{all}
 use Rattle.grammar.specs.LastToken.{lastOf, lastToken}
 

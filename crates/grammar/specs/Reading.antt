@@ -7,7 +7,7 @@ use lib.ListN.{length}
 use Rattle.limits.specs.Limits.{textLimit, overLimit, depthLimit}
 use Rattle.refusals.specs.Refusals.{textTooLong, illFormedUtf8}
 use Rattle.utf8.specs.Utf8.{isUtf8, firstIll}
-use Rattle.tokenizer.specs.Lex.{lex}
+use Rattle.token_stream.specs.Lex.{lex}
 use Rattle.tree.specs.Tree.{Tree}
 use Rattle.tree.specs.TreeIn.{spanTexts, treeIn}
 use Rattle.grammar.specs.Asks.{run, answerIn}

@@ -1,8 +1,8 @@
 -- What the grammar asks of a token. Its sort is a number, so that a test of it is a test of numbers, in the code too.
 use Prim.Native.Nat.{ℕ}
 use mathlib.Core.List.{List, []}
-use Rattle.tokenizer.specs.declared.Refusal.{Refusal}
-use Rattle.tokenizer.specs.Stream.{Tk, open-tk, close-tk, comma-tk, none-tk, bad-tk, word-tk, number-tk, Tok, tok}
+use Rattle.token.specs.declared.Refusal.{Refusal}
+use Rattle.token_stream.specs.Stream.{Tk, open-tk, close-tk, comma-tk, none-tk, bad-tk, word-tk, number-tk, Tok, tok}
 
 abbrev pub sortNone : ℕ
 sortNone = 0

@@ -14,15 +14,15 @@ use Rattle.names.specs.declared.Ending.{Ending}
 use Rattle.scan.specs.Bytes.{isAscii}
 use Rattle.lists.specs.Lists.{every}
 use Rattle.names.specs.Names.{meaning, ending, isEmptyWord}
-use Rattle.tokenizer.specs.declared.Found.{Found}
+use Rattle.token.specs.declared.Found.{Found}
 use Rattle.tokenizer.specs.declared.Cursor.{Cursor}
 use Rattle.tokenizer.specs.declared.Step.{Step}
 use Rattle.tokenizer.specs.declared.PassedOpen.{PassedOpen}
-use Rattle.tokenizer.specs.declared.Refusal.{Refusal}
+use Rattle.token.specs.declared.Refusal.{Refusal}
 use Rattle.tokenizer.specs.Tokens.{step, cursorAt, takeHeld, takeAt, hold, lookAt, passOpen}
-use Rattle.tokenizer.specs.Stream.{Tok, tokIn}
-use Rattle.tokenizer.proofs.Stream.{take-head}
-use Rattle.tokenizer.proofs.Marks.{take-free, open-taken, open-not}
+use Rattle.token_stream.specs.Stream.{Tok, tokIn}
+use Rattle.token_stream.proofs.Stream.{take-head}
+use Rattle.token_stream.proofs.Marks.{take-free, open-taken, open-not}
 use Rattle.grammar.specs.Tokens.{sortOpen, sortWord, sortOf, placeOf, textOf}
 use Rattle.grammar.specs.Asks.{P, ask, look}
 use Rattle.grammar.specs.Grammar.{opens, empty, wrong, refusal, isEmptyTok, opening, opener, header, byName, childHead, rootHead}

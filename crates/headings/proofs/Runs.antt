@@ -5,8 +5,8 @@ use mathlib.Core.List.{List}
 use Prim.Native.Nat.{ℕ}
 use Rattle.tokenizer.specs.declared.Cursor.{Cursor}
 use Rattle.tokenizer.specs.Tokens.{takeAt, lookAt}
-use Rattle.tokenizer.specs.Stream.{Tok, tokIn, stream}
-use Rattle.tokenizer.proofs.Stream.{take-head, take-tail, look-same}
+use Rattle.token_stream.specs.Stream.{Tok, tokIn, stream}
+use Rattle.token_stream.proofs.Stream.{take-head, take-tail, look-same}
 use Rattle.grammar.specs.Asks.{P, ret, ask, look, Ran, ran, run}
 use Rattle.grammar.specs.Grammar as spec
 use Rattle.grammar.proofs.Asks.{run-ret, run-ask, run-look}

@@ -10,9 +10,10 @@ use Rattle.scan.specs.Runs.{run, firstNot, afterOneAt}
 use Rattle.words.specs.Words.{sameWord}
 use Rattle.number.specs.Lexeme.{isNamed, isDigits, isExponent, isDecimal, isUnsigned, isLexeme}
 use Rattle.names.specs.Names.{spellings, lookup, meaning, ending}
-use Rattle.tokenizer.specs.declared.Token.{Token}
+use Rattle.token.specs.declared.Token.{Token}
 use Rattle.tokenizer.specs.declared.Held.{Held}
-use Rattle.tokenizer.specs.Tokens.{numberAt, wordAt, startAt, tokenAt, readAt, takeHeld, cursorAt}
+use Rattle.token.specs.Tokens.{numberAt, wordAt, startAt, tokenAt, readAt}
+use Rattle.tokenizer.specs.Tokens.{takeHeld, cursorAt}
 use Rattle.grammar.specs.Tokens.{sortNone, sortBad, sortOpen, sortClose, sortComma, sortNumber, sortWord}
 use Rattle.grammar.specs.Grammar as spec
 use Rattle.grammar.specs.Grammar.{opens, empty, wrong, refusal, opening, opener, header, childHead, rootHead}

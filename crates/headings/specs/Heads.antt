@@ -8,7 +8,7 @@ use Rattle.refusals.specs.Refusals.{notOpened}
 use Rattle.names.specs.Names.{isEmptyWord}
 use Rattle.tokenizer.specs.declared.Cursor.{Cursor}
 use Rattle.tokenizer.specs.Tokens.{cursorAt, takeAt, lookAt}
-use Rattle.tokenizer.specs.Stream.{spanIn, tokIn}
+use Rattle.token_stream.specs.Stream.{spanIn, tokIn}
 use Rattle.grammar.specs.Tokens.{sortWord}
 use Rattle.grammar.specs.Asks.{P, ret, ask, look}
 use Rattle.grammar.specs.Grammar as spec

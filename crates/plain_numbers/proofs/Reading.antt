@@ -16,10 +16,10 @@ use Rattle.scan.proofs.Runs.{stop, not-past, one-on, one-off, scan-on, one-not-
 use Rattle.number.specs.declared.Lexeme.{Lexeme}
 use Rattle.number.specs.Lexeme.{isLexeme, isDecimal, upToStop, fromHere}
 use Rattle.number.proofs.Text.{exponent-stop, decimal-is, lexeme-decimal}
-use Rattle.tokenizer.specs.declared.Found.{Found}
-use Rattle.tokenizer.specs.declared.Token.the-variants.{Number}
-use Rattle.tokenizer.specs.Tokens.{read, afterBlank, numberAt, tokenAt, readAt}
-use Rattle.tokenizer.proofs.Tokens.{number-is, other-is}
+use Rattle.token.specs.declared.Found.{Found}
+use Rattle.token.specs.declared.Token.the-variants.{Number}
+use Rattle.token.specs.Tokens.{read, afterBlank, numberAt, tokenAt, readAt}
+use Rattle.token.proofs.Tokens.{number-is, other-is}
 use Rattle.plain_numbers.specs.Plain.{isMinus, fractionEnd, decimalEnd, plain, plainAt, PlainNumber}
 use Rattle.plain_numbers.specs.declared.Plain.{Plain}
 

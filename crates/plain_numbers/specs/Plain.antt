@@ -7,9 +7,9 @@ use lib.Dec.{eqb, ltb}
 use lib.ListN.{length, getD}
 use Rattle.scan.specs.Bytes.{minus, isStop, isDigit, isPoint}
 use Rattle.scan.specs.Runs.{firstNot, afterOneAt}
-use Rattle.tokenizer.specs.declared.Found.{Found}
-use Rattle.tokenizer.specs.declared.Token.the-variants.{Number}
-use Rattle.tokenizer.specs.Tokens.{read, afterBlank, readAt}
+use Rattle.token.specs.declared.Found.{Found}
+use Rattle.token.specs.declared.Token.the-variants.{Number}
+use Rattle.token.specs.Tokens.{read, afterBlank, readAt}
 use Rattle.plain_numbers.specs.declared.Plain.{Plain}
 
 abbrev pub isMinus : ℕ → Bool

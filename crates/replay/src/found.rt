@@ -1,6 +1,6 @@
 // What demands for a token found, compared.
-use tokenizer::Found;
-use tokenizer::Token;
+use token::Found;
+use token::Token;
 
 // What was found as numbers: its sort, its place, and the span of a number's text or of a word, 0 where there is none.
 struct Told {

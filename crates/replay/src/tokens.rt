@@ -9,8 +9,8 @@ use records::parts::behind;
 use records::parts::field;
 use records::parts::has_text;
 use shown_tokens::put_found;
+use token::Found;
 use tokenizer::Cursor;
-use tokenizer::Found;
 
 // Where the fields stand in a record.
 const PLACE: usize = FIRST;

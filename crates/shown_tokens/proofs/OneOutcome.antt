@@ -3,7 +3,7 @@
 use mathlib.Core.Path.{_≡_}
 use Rattle.lists.specs.One.{One}
 use Rattle.lists.proofs.One.{one}
-use Rattle.tokenizer.specs.declared.Found.{Found}
+use Rattle.token.specs.declared.Found.{Found}
 use Rattle.printing.specs.Printing.{Buffer, putAllIn}
 use Rattle.shown_tokens.specs.Shown.{shownFound}
 

@@ -2,10 +2,10 @@
 use Prim.Native.Nat.{ℕ}
 use mathlib.Core.List.{List, [], _∷_, _++_}
 use Rattle.scan.specs.Text.{bytes}
-use Rattle.tokenizer.specs.declared.Token.{Token}
-use Rattle.tokenizer.specs.declared.Token.the-variants.{Comma, Number, ParenClose, ParenOpen, Word}
-use Rattle.tokenizer.specs.declared.Found.{Found}
-use Rattle.tokenizer.specs.declared.Found.the-variants as found
+use Rattle.token.specs.declared.Token.{Token}
+use Rattle.token.specs.declared.Token.the-variants.{Comma, Number, ParenClose, ParenOpen, Word}
+use Rattle.token.specs.declared.Found.{Found}
+use Rattle.token.specs.declared.Found.the-variants as found
 use Rattle.printing.specs.Printing.{decimal}
 
 -- a name, and a number behind it

@@ -2,8 +2,8 @@
 // start of a number's text or of a word, and L its length.
 use printing::put;
 use printing::put_number;
-use tokenizer::Found;
-use tokenizer::Token;
+use token::Found;
+use token::Token;
 ghost use mathlib.Core.Path.{_≡_};
 ghost use Rattle.printing.specs.Printing.{buffer, putAllIn};
 ghost use Rattle.shown_tokens.specs.Shown.{placed, spanned, shownToken, shownFound};

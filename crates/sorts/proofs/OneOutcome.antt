@@ -8,7 +8,8 @@ use lib.Dec.{eqb}
 use Rattle.lists.specs.One.{One}
 use Rattle.lists.proofs.One.{one}
 use Rattle.tokenizer.specs.declared.Cursor.{Cursor}
-use Rattle.tokenizer.specs.Tokens.{badAt, cursorAt}
+use Rattle.token.specs.Tokens.{badAt}
+use Rattle.tokenizer.specs.Tokens.{cursorAt}
 use Rattle.grammar.specs.Tokens.{sortBad}
 use Rattle.grammar.specs.Grammar.{refusal}
 use Rattle.sorts.specs.Taken.{takenAt}

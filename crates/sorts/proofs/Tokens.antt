@@ -10,18 +10,18 @@ use lib.ListN.{length, drop, length-drop, drop-of-length-le}
 use lib.Seq.{take-nil, take-all}
 use borrow.Author.Tests.{ltb-true, ltb-false}
 use Rattle.lists.proofs.Cases.{either}
-use Rattle.tokenizer.specs.declared.Token.{Token}
-use Rattle.tokenizer.specs.declared.Token.the-variants.{Comma, Number, ParenClose, ParenOpen, Word}
-use Rattle.tokenizer.specs.declared.Found.{Found}
+use Rattle.token.specs.declared.Token.{Token}
+use Rattle.token.specs.declared.Token.the-variants.{Comma, Number, ParenClose, ParenOpen, Word}
+use Rattle.token.specs.declared.Found.{Found}
 use Rattle.tokenizer.specs.declared.Cursor.{Cursor}
 use Rattle.tokenizer.specs.declared.PassedOpen.{PassedOpen}
 use Rattle.tokenizer.specs.declared.Closes.{Closes}
 use Rattle.tokenizer.specs.Tokens.{cursorAt, takeAt, isOpenToken, isOpen, placeIn, passOpen, closesAt}
-use Rattle.tokenizer.specs.Stream.{Tok, tok, hd, tl, spanIn, tkIn, tokIn, stream}
-use Rattle.tokenizer.specs.Sound.{SoundToken, SoundFound, Sound}
-use Rattle.tokenizer.proofs.Stream.{take-head, take-tail, look-same}
-use Rattle.tokenizer.proofs.Sound.{take-sound}
-use Rattle.tokenizer.proofs.Marks.{take-free, open-is, open-taken, open-not, close-taken}
+use Rattle.token_stream.specs.Stream.{Tok, tok, hd, tl, spanIn, tkIn, tokIn, stream}
+use Rattle.token_stream.specs.Sound.{SoundToken, SoundFound, Sound}
+use Rattle.token_stream.proofs.Stream.{take-head, take-tail, look-same}
+use Rattle.token_stream.proofs.Sound.{take-sound}
+use Rattle.token_stream.proofs.Marks.{take-free, open-is, open-taken, open-not, close-taken}
 use Rattle.grammar.specs.Tokens.{sortOpen, sortClose, sortNumber, tkSort, sortOf, placeOf, tkStart, startOf, textOf, refusalAt}
 use Rattle.grammar.specs.Asks.{P, ask, run}
 use Rattle.grammar.proofs.Asks.{run-ask}

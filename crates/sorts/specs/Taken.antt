@@ -4,12 +4,13 @@ use mathlib.Core.List.{List}
 use Prim.Native.Nat.{ℕ, _-_}
 use lib.Dec.{eqb, ltb}
 use lib.ListN.{length}
-use Rattle.tokenizer.specs.declared.Token.{Token}
-use Rattle.tokenizer.specs.declared.Token.the-variants.{Comma, Number, ParenClose, ParenOpen, Word}
-use Rattle.tokenizer.specs.declared.Found.{Found}
+use Rattle.token.specs.declared.Token.{Token}
+use Rattle.token.specs.declared.Token.the-variants.{Comma, Number, ParenClose, ParenOpen, Word}
+use Rattle.token.specs.declared.Found.{Found}
 use Rattle.tokenizer.specs.declared.Cursor.{Cursor}
-use Rattle.tokenizer.specs.declared.Refusal.{Refusal}
-use Rattle.tokenizer.specs.Tokens.{badAt, takeAt}
+use Rattle.token.specs.declared.Refusal.{Refusal}
+use Rattle.token.specs.Tokens.{badAt}
+use Rattle.tokenizer.specs.Tokens.{takeAt}
 use Rattle.grammar.specs.Tokens.{sortNone, sortBad, sortOpen, sortClose, sortComma, sortNumber, sortWord}
 use Rattle.grammar.specs.Grammar.{refusal}
 use Rattle.sorts.specs.declared.Taken.{Taken}

@@ -1,13 +1,14 @@
 // A token as the grammar asks of it: by its sort, a number.
+use token::Found;
+use token::Refusal;
+use token::Token;
 use tokenizer::Cursor;
-use tokenizer::Found;
 use tokenizer::Held;
-use tokenizer::Refusal;
-use tokenizer::Token;
 ghost use mathlib.Core.Path.{_≡_};
 ghost use mathlib.Core.Bool.{cond};
 ghost use lib.Dec.{eqb};
-ghost use Rattle.tokenizer.specs.Tokens.{badAt, cursorAt, takeAt};
+ghost use Rattle.token.specs.Tokens.{badAt};
+ghost use Rattle.tokenizer.specs.Tokens.{cursorAt, takeAt};
 ghost use Rattle.grammar.specs.Tokens.{sortBad};
 ghost use Rattle.grammar.specs.Grammar.{refusal};
 ghost use Rattle.sorts.specs.Taken.{taken, clipped, speltAs, told, takenAt};
@@ -107,7 +108,7 @@ fn told(text: &[u8], found: Found, at: usize) -> Taken
 pub fn take_at(text: &[u8], at: usize) -> Taken
     ensures { λ r. ⌜ r ≡ takenAt (now (text .entry)) (cursorAt at) ⌝ }
 {
-    let read = tokenizer::read_at(text, at);
+    let read = token::read_at(text, at);
     let found = read.found;
     told(text, found, read.at)
 }
@@ -131,7 +132,7 @@ pub fn refusal_at(text: &[u8], number: u32, sort: u32, place: usize) -> Refusal
     ensures { λ r. ⌜ r ≡ cond (eqb sort sortBad) (badAt (now (text .entry)) place) (refusal number place) ⌝ }
 {
     if sort == BAD {
-        return tokenizer::bad_number_at(text, place);
+        return token::bad_number_at(text, place);
     }
     Refusal { number, place }
 }

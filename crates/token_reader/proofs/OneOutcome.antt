@@ -6,7 +6,7 @@ use mathlib.Core.List.{List}
 use denote.Ref.{RefT, now}
 use Rattle.lists.specs.One.{One}
 use Rattle.lists.proofs.One.{one}
-use Rattle.tokenizer.specs.declared.Found.{Found}
+use Rattle.token.specs.declared.Found.{Found}
 use Rattle.tokenizer.specs.declared.Cursor.{Cursor}
 use Rattle.tokenizer.specs.Tokens.{cursorAt, takeAt, lookAt}
 use Rattle.token_reader.specs.declared.Tokens.{Tokens}

@@ -5,13 +5,13 @@ use mathlib.Core.List.{List}
 use Prim.Native.Nat.{ℕ, zero, suc, _-_, _≤_}
 use native.Mathlib.Omega.{arith}
 use denote.Ref.{now}
-use Rattle.tokenizer.specs.declared.Found.{Found}
+use Rattle.token.specs.declared.Found.{Found}
 use Rattle.tokenizer.specs.declared.Held.{Held}
 use Rattle.tokenizer.specs.declared.Cursor.{Cursor}
 use Rattle.tokenizer.specs.declared.Step.{Step}
 use Rattle.tokenizer.specs.Tokens.{takeHeld, takeAt, lookAt, hold, step, cursorAt}
-use Rattle.tokenizer.specs.Stream.{hd, tl, tokIn, stream}
-use Rattle.tokenizer.proofs.Stream.{take-head, take-tail, look-same}
+use Rattle.token_stream.specs.Stream.{hd, tl, tokIn, stream}
+use Rattle.token_stream.proofs.Stream.{take-head, take-tail, look-same}
 use Rattle.token_reader.specs.declared.Tokens.{Tokens}
 use Rattle.token_reader.specs.Reader.{reader, nextOf, afterNext, peekOf, afterPeek, nthFrom}
 

@@ -48,8 +48,8 @@ use Rattle.tokenizer.specs.declared.Cursor.{Cursor}
 use Rattle.tokenizer.specs.declared.Step.{Step}
 use Rattle.tokenizer.proofs.Cursor as K
 use Rattle.tokenizer.proofs.Cursor.Laws as K′
-use Rattle.tokenizer.proofs.Found as F
-use Rattle.tokenizer.proofs.Found.Laws as F′
+use Rattle.token.proofs.Found as F
+use Rattle.token.proofs.Found.Laws as F′
 use Rattle.tokenizer.proofs.Step as S
 use Rattle.tokenizer.proofs.Step.Laws as S′
 use Rattle.token_reader.proofs.Tokens as T

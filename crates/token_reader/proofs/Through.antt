@@ -41,15 +41,15 @@ use denote.Triple.Entry.{alive}
 use denote.Triple.Spec.{Meets}
 use denote.Triple.Walked.{says, Stays, stay-none, stay-none-slice, goes-none, goes-none-slice, ends-at}
 use Rattle.tokenizer.specs.Tokens.{step}
-use Rattle.tokenizer.specs.declared.Found.{Found}
+use Rattle.token.specs.declared.Found.{Found}
 use Rattle.tokenizer.specs.declared.Cursor.{Cursor}
 use Rattle.tokenizer.specs.declared.Step.{Step}
 use Rattle.token_reader.specs.Reader.{reader}
 use Rattle.token_reader.specs.declared.Tokens.{Tokens}
 use Rattle.tokenizer.proofs.Cursor as K
 use Rattle.tokenizer.proofs.Cursor.Laws as K′
-use Rattle.tokenizer.proofs.Found as F
-use Rattle.tokenizer.proofs.Found.Laws as F′
+use Rattle.token.proofs.Found as F
+use Rattle.token.proofs.Found.Laws as F′
 use Rattle.tokenizer.proofs.Step as S
 use Rattle.tokenizer.proofs.Step.Laws as S′
 use Rattle.token_reader.proofs.Tokens.Laws as T′

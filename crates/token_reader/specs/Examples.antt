@@ -8,9 +8,10 @@ use Rattle.scan.specs.Front.{begins, afterOne, afterAll, isNil}
 use Rattle.scan.specs.Runs.{run, firstNot, afterOneAt}
 use Rattle.words.specs.Words.{sameWord}
 use Rattle.number.specs.Lexeme.{isNamed, isDigits, isExponent, isDecimal, isUnsigned, isLexeme}
-use Rattle.tokenizer.specs.declared.Token.{Token}
-use Rattle.tokenizer.specs.declared.Found.{Found}
-use Rattle.tokenizer.specs.Tokens.{numberAt, wordAt, startAt, tokenAt, readAt, takeHeld, cursorAt}
+use Rattle.token.specs.declared.Token.{Token}
+use Rattle.token.specs.declared.Found.{Found}
+use Rattle.token.specs.Tokens.{numberAt, wordAt, startAt, tokenAt, readAt}
+use Rattle.tokenizer.specs.Tokens.{takeHeld, cursorAt}
 use Rattle.token_reader.specs.declared.Tokens.{Tokens}
 use Rattle.token_reader.specs.Reader.{reader, nextOf, afterNext, peekOf, afterPeek, nthFrom}
 

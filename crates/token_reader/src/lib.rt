@@ -1,8 +1,8 @@
 // The token reader: a lent text and the place in it together, `Tokens` of the Rust's tokenizer.rs.
 // A function over this struct is proved by a walk of its code, by hand. So each is thin: it takes the struct apart and leaves the work to
 // the cursor's own step.
+use token::Found;
 use tokenizer::Cursor;
-use tokenizer::Found;
 use tokenizer::Step;
 ghost use mathlib.Core.Path.{_≡_};
 ghost use Rattle.tokenizer.specs.Tokens.{cursorAt, takeAt, lookAt};

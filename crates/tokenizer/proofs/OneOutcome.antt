@@ -6,13 +6,7 @@ use mathlib.Core.List.{List}
 use Rattle.lists.specs.One.{One}
 use Rattle.lists.proofs.One.{one}
 use Rattle.tokenizer.specs.declared.Cursor.{Cursor}
-use Rattle.tokenizer.specs.Tokens.{readAt, cursorAt, takeAt, lookAt, badAt, passComma, passOpen, closesAt}
-
-pub bad_number_at-one : (text : List ℕ) (place : ℕ) → One (λ r. r ≡ badAt text place)
-bad_number_at-one text place = one
-
-pub read_at-one : (text : List ℕ) (from : ℕ) → One (λ r. r ≡ readAt text from)
-read_at-one text from = one
+use Rattle.tokenizer.specs.Tokens.{cursorAt, takeAt, lookAt, passComma, passOpen, closesAt}
 
 pub new-one : (place : ℕ) → One (λ r. r ≡ cursorAt place)
 new-one place = one

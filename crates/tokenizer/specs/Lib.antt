@@ -1,5 +1,2 @@
 pub mod Tokens
-pub mod Stream
-pub mod Sound
-pub mod Lex
 pub mod Examples

@@ -1,35 +1,9 @@
-// The tokens of a text, one at a time: `tokenizer.rs` of the Rust, with `Peekable` as a cursor that is handed on by value.
-use number::read_lexeme;
-use refusals::BAD_NUMBER;
-use scan::after_blank;
-use scan::after_plus;
-use scan::is_numberlike;
-use scan::skip_blanks;
-use scan::token_end;
+// The tokens of a text, one at a time: `Peekable` of the Rust as a cursor that is handed on by value.
+use token::Found;
+use token::Token;
+use token::read_at;
 ghost use mathlib.Core.Path.{_≡_};
-ghost use Prim.Native.Nat.{_<_};
-ghost use lib.ListN.{length};
-ghost use Rattle.tokenizer.specs.Tokens.{numberAt, wordAt, readAt, cursorAt, takeAt, hold, lookAt, badAt, isNothing, isComma, isOpen, isCloseToken, placeIn, standsAt, passComma, passOpen, closesAt};
-
-const NUL: u8 = 0;
-
-pub enum Token {
-    Comma,
-    // Where the number's text starts, after a dropped `+`, and its length.
-    Number(usize, usize),
-    ParenClose,
-    ParenOpen,
-    // Where the word starts, and its length.
-    Word(usize, usize),
-}
-
-// What a demand for a token finds, with the place where it starts.
-pub enum Found {
-    // NUL, or the end of the text.
-    NoToken(usize),
-    BadNumber(usize),
-    Is(usize, Token),
-}
+ghost use Rattle.tokenizer.specs.Tokens.{cursorAt, takeAt, hold, lookAt, isNothing, isComma, isOpen, isCloseToken, placeIn, standsAt, passComma, passOpen, closesAt};
 
 // What was looked at and not yet taken.
 pub enum Held {
@@ -37,12 +11,6 @@ pub enum Held {
     NoToken(usize),
     BadNumber(usize),
     Is(usize, Token),
-}
-
-// What was read, and the place to read on from.
-pub struct Read {
-    pub found: Found,
-    pub at: usize,
 }
 
 // A place in a text, and what is held of what stands before it.
@@ -75,84 +43,6 @@ pub struct PassedOpen {
 pub struct Closes {
     pub close: bool,
     pub at: usize,
-}
-
-// A refusal's number and place.
-pub struct Refusal {
-    pub number: u32,
-    pub place: usize,
-}
-
-// The refusal of the bad number that starts at `place`.
-pub fn bad_number_at(text: &[u8], place: usize) -> Refusal
-    ensures { λ r. ⌜ r ≡ badAt (now (text .entry)) place ⌝ }
-{
-    Refusal {
-        number: BAD_NUMBER,
-        place,
-    }
-}
-
-// The number that starts at `p`.
-fn read_number(text: &[u8], p: usize) -> Read
-    requires { ⌜ p < length (now text) ⌝ }
-    ensures { λ r. ⌜ r ≡ numberAt (now (text .entry)) p ⌝ }
-{
-    let start = after_plus(text, p);
-    let lexeme = read_lexeme(text, start);
-    let end = lexeme.end;
-    let at = after_blank(text, end);
-    if lexeme.good {
-        Read {
-            found: Found::Is(p, Token::Number(start, end - start)),
-            at,
-        }
-    } else {
-        Read {
-            found: Found::BadNumber(p),
-            at,
-        }
-    }
-}
-
-// The word that starts at `p`.
-fn read_word(text: &[u8], p: usize) -> Read
-    requires { ⌜ p < length (now text) ⌝ }
-    ensures { λ r. ⌜ r ≡ wordAt (now (text .entry)) p ⌝ }
-{
-    let end = token_end(text, p);
-    Read {
-        found: Found::Is(p, Token::Word(p, end - p)),
-        at: after_blank(text, end),
-    }
-}
-
-// What stands from `from` on, after blanks.
-pub fn read_at(text: &[u8], from: usize) -> Read
-    ensures { λ r. ⌜ r ≡ readAt (now (text .entry)) from ⌝ }
-{
-    let p = skip_blanks(text, from);
-    if text.len() <= p {
-        return Read {
-            found: Found::NoToken(text.len()),
-            at: text.len(),
-        };
-    }
-    let b = text[p];
-    let past = p + 1;
-    let found = match b {
-        NUL => Found::NoToken(p),
-        b'(' => Found::Is(p, Token::ParenOpen),
-        b')' => Found::Is(p, Token::ParenClose),
-        b',' => Found::Is(p, Token::Comma),
-        _ => {
-            if is_numberlike(b) {
-                return read_number(text, p);
-            }
-            return read_word(text, p);
-        }
-    };
-    Read { found, at: past }
 }
 
 // What was found, as what is held.

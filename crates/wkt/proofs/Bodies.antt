@@ -14,12 +14,12 @@ use Rattle.kinds.specs.Kinds.{kindPoint, kindLineString, kindPolygon, kindMulti
 use Rattle.limits.specs.Limits.{depthLimit}
 use Rattle.refusals.specs.Refusals.{noNodeRow, tooDeep}
 use Rattle.tokenizer.specs.declared.Cursor.{Cursor}
-use Rattle.tokenizer.specs.declared.Refusal.{Refusal}
+use Rattle.token.specs.declared.Refusal.{Refusal}
 use Rattle.tokenizer.specs.declared.PassedOpen.{PassedOpen}
 use Rattle.tokenizer.specs.Tokens.{cursorAt, passOpen}
-use Rattle.tokenizer.specs.Stream.{hd, stream}
-use Rattle.tokenizer.proofs.Sound.{new-sound, look-sound}
-use Rattle.tokenizer.proofs.Marks.{open-not}
+use Rattle.token_stream.specs.Stream.{hd, stream}
+use Rattle.token_stream.proofs.Sound.{new-sound, look-sound}
+use Rattle.token_stream.proofs.Marks.{open-not}
 use Rattle.store.specs.Rows.{Row, Span, nodeRoom, numberRoom, rowsIn, spansIn, openRow}
 use Rattle.store.proofs.Rows.{rows-length, rows-opened, openRow-length}
 use Rattle.grammar.specs.Asks.{P, ret, bind}

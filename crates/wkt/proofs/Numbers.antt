@@ -11,11 +11,12 @@ use lib.Seq.{length-take-le}
 use borrow.Author.Tests.{eq-eqb, ne-eqb, lt-ltb, le-ltb}
 use Rattle.kinds.specs.Kinds.{hasZ, hasM, width}
 use Rattle.refusals.specs.Refusals.{noNumberRow, noX, noY, noZ, noM}
-use Rattle.tokenizer.specs.declared.Refusal.{Refusal}
-use Rattle.tokenizer.specs.Tokens.{readAt, cursorAt, takeHeld}
-use Rattle.tokenizer.specs.Stream.{Str, hd, tl, tokIn, spanIn, stream}
-use Rattle.tokenizer.proofs.Stream.{take-head, take-tail}
-use Rattle.tokenizer.proofs.Sound.{new-sound}
+use Rattle.token.specs.declared.Refusal.{Refusal}
+use Rattle.token.specs.Tokens.{readAt}
+use Rattle.tokenizer.specs.Tokens.{cursorAt, takeHeld}
+use Rattle.token_stream.specs.Stream.{Str, hd, tl, tokIn, spanIn, stream}
+use Rattle.token_stream.proofs.Stream.{take-head, take-tail}
+use Rattle.token_stream.proofs.Sound.{new-sound}
 use Rattle.store.specs.Rows.{Row, Span, numberRoom, putSpan}
 use Rattle.store.proofs.Rows.{spans-length, spans-put, putSpan-length, spans-before}
 use Rattle.grammar.specs.Asks.{ran, run}

@@ -11,9 +11,9 @@ use Rattle.limits.specs.Limits.{textLimit, overLimit}
 use Rattle.utf8.specs.Utf8.{firstIll}
 use Rattle.utf8.proofs.Walk.{in-text}
 use Rattle.tokenizer.specs.declared.Cursor.{Cursor}
-use Rattle.tokenizer.specs.declared.Refusal.{Refusal}
-use Rattle.tokenizer.specs.Stream.{stream}
-use Rattle.tokenizer.proofs.Bridge.{toks-lex}
+use Rattle.token.specs.declared.Refusal.{Refusal}
+use Rattle.token_stream.specs.Stream.{stream}
+use Rattle.token_stream.proofs.Bridge.{toks-lex}
 use Rattle.store.specs.Rows.{nodeWidth, numberWidth, nodeRoom, numberRoom, firsts, rowsIn, spansIn, cleared}
 use Rattle.store.specs.Answers.{Accepts}
 use Rattle.store.proofs.Cells.{places-some}

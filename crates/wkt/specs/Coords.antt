@@ -4,8 +4,8 @@ use mathlib.Core.List.{List}
 use Prim.Native.Nat.{ℕ, zero, suc, _+_, _≤_, _<_, _^_}
 use lib.ListN.{length}
 use Rattle.tokenizer.specs.Tokens.{cursorAt}
-use Rattle.tokenizer.specs.Stream.{stream}
-use Rattle.tokenizer.specs.Sound.{Sound}
+use Rattle.token_stream.specs.Stream.{stream}
+use Rattle.token_stream.specs.Sound.{Sound}
 use Rattle.store.specs.Rows.{Row, nodeRoom, numberRoom, rowsIn, spansIn}
 use Rattle.grammar.specs.Asks.{P}
 use Rattle.grammar.specs.Grammar as spec

@@ -2,7 +2,7 @@
 use mathlib.Core.List.{List}
 use Prim.Native.Nat.{ℕ}
 use Rattle.limits.specs.Limits.{depthLimit}
-use Rattle.tokenizer.specs.Stream.{toks}
+use Rattle.token_stream.specs.Stream.{toks}
 use Rattle.store.specs.Rows.{rowsIn, spansIn}
 use Rattle.grammar.specs.Asks.{run, answerIn}
 use Rattle.grammar.specs.Grammar.{out, Got, ok, refused, halt, root}

@@ -9,7 +9,7 @@ use borrow.Fn.Kinds.{In}
 use borrow.Fn.PlainCycle.{Measures, is, falls, and}
 use Rattle.kinds.specs.Kinds.{kindGeometryCollection}
 use Rattle.tokenizer.specs.Tokens.{cursorAt}
-use Rattle.tokenizer.specs.Stream.{size, stream}
+use Rattle.token_stream.specs.Stream.{size, stream}
 use Rattle.answers.specs.Reading.{listOf}
 use Rattle.answers.proofs.after_part.Reads as after-part-reads
 use Rattle.answers.proofs.after_refusal.Reads as after-refusal-reads

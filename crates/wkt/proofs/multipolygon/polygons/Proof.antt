@@ -6,7 +6,7 @@ use Rattle.wkt.proofs.multipolygon.polygons.Tie as tie
 use mathlib.Core.Path.{_∙_}
 use native.Mathlib.Omega.{arith}
 use Rattle.tokenizer.specs.Tokens.{cursorAt}
-use Rattle.tokenizer.specs.Stream.{size, stream}
+use Rattle.token_stream.specs.Stream.{size, stream}
 use Rattle.answers.proofs.Parts.{not-read}
 use Rattle.answers.proofs.ByCommas.{ListInv, list-first, list-few, list-more, list-less, list-last, list-lost}
 use Rattle.wkt.specs.Parts.{polygonOf}

@@ -4,13 +4,13 @@ use mathlib.Core.Bool.{Bool, true, false, cond}
 use mathlib.Core.List.{List, []}
 use lib.ListN.{length, take, drop}
 use lib.Dec.{eqb}
-use Rattle.tokenizer.specs.declared.Token.{Token}
-use Rattle.tokenizer.specs.declared.Token.the-variants.{Comma, Number, ParenClose, ParenOpen, Word}
-use Rattle.tokenizer.specs.declared.Found.{Found}
+use Rattle.token.specs.declared.Token.{Token}
+use Rattle.token.specs.declared.Token.the-variants.{Comma, Number, ParenClose, ParenOpen, Word}
+use Rattle.token.specs.declared.Found.{Found}
 use Rattle.tokenizer.specs.declared.Held.{Held}
 use Rattle.tokenizer.specs.declared.Cursor.{Cursor}
-use Rattle.tokenizer.specs.declared.Refusal.{Refusal}
-use Rattle.tokenizer.specs.Tokens.{badAt, readAt}
+use Rattle.token.specs.declared.Refusal.{Refusal}
+use Rattle.token.specs.Tokens.{badAt, readAt}
 
 -- what a token is: a word with its bytes, a number with the place and the bytes of its text, a bad number with its refusal;
 -- NUL and the end are "no token"

@@ -1,12 +1,12 @@
--- `tokenizer::read_word` meets its contract.
+-- `token::read_word` meets its contract.
 -- Assumes nothing.
 use borrow.Author.Needs.{needs}
-use Rattle.tokenizer.proofs.read_word.Statement.{statement}
-use Rattle.tokenizer.proofs.read_word.Tie as tie
+use Rattle.token.proofs.read_word.Statement.{statement}
+use Rattle.token.proofs.read_word.Tie as tie
 use native.Mathlib.Omega.{arith}
 use Rattle.scan.specs.Bytes.{isInner}
 use Rattle.scan.proofs.Runs.{not-before}
-use Rattle.tokenizer.proofs.Tokens.{word-is}
+use Rattle.token.proofs.Tokens.{word-is}
 
 token-end-requires : tie.Need-token-end-requires
 token-end-requires c κs = search needs

@@ -6,9 +6,9 @@ use Prim.Native.Nat.{ℕ, _+_}
 use lib.Dec.{eqb}
 use Rattle.scan.specs.Bytes.{nul, parenOpen, parenClose, plus, isBlank, isStop, isNumberlike}
 use Rattle.number.specs.Lexeme.{isLexeme}
-use Rattle.tokenizer.specs.declared.Refusal.{Refusal}
-use Rattle.tokenizer.specs.Tokens.{badNumberAt}
-use Rattle.tokenizer.specs.Stream.{Tk, open-tk, close-tk, comma-tk, none-tk, bad-tk, word-tk, number-tk, tok, Str, end, then}
+use Rattle.token.specs.declared.Refusal.{Refusal}
+use Rattle.token.specs.Tokens.{badNumberAt}
+use Rattle.token_stream.specs.Stream.{Tk, open-tk, close-tk, comma-tk, none-tk, bad-tk, word-tk, number-tk, tok, Str, end, then}
 
 unfoldable pub markTk : ℕ → Tk
 markTk b = cond (eqb b nul) none-tk (cond (eqb b parenOpen) open-tk (cond (eqb b parenClose) close-tk comma-tk))

@@ -15,15 +15,16 @@ use Rattle.scan.specs.Runs.{firstNot, afterOneAt}
 use Rattle.scan.proofs.Bytes.{plus-inner}
 use Rattle.scan.proofs.Runs.{on, past, not-before, not-past, first-fails, one-not-before, one-not-past, scan-one}
 use Rattle.number.specs.Lexeme.{isLexeme, upToStop}
-use Rattle.tokenizer.specs.declared.Token.{Token}
-use Rattle.tokenizer.specs.declared.Token.the-variants.{Comma, Number, ParenClose, ParenOpen, Word}
-use Rattle.tokenizer.specs.declared.Found.{Found}
+use Rattle.token.specs.declared.Token.{Token}
+use Rattle.token.specs.declared.Token.the-variants.{Comma, Number, ParenClose, ParenOpen, Word}
+use Rattle.token.specs.declared.Found.{Found}
 use Rattle.tokenizer.specs.declared.Held.{Held}
-use Rattle.tokenizer.specs.declared.Read.{Read}
+use Rattle.token.specs.declared.Read.{Read}
 use Rattle.tokenizer.specs.declared.Cursor.{Cursor}
-use Rattle.tokenizer.specs.Tokens.{read, endOf, afterBlank, textStart, numberOr, numberAt, wordAt, startAt, tokenAt, readAt, takeHeld, takeAt, hold, lookAt}
-use Rattle.tokenizer.specs.Stream.{Tk, open-tk, close-tk, comma-tk, none-tk, bad-tk, word-tk, number-tk, Tok, tok, Str, end, then, hd, tl, size, noneThen, cons, tkIn, tokIn, toksBy, toks, before, stream}
-use Rattle.tokenizer.proofs.Tokens.{start-end}
+use Rattle.token.specs.Tokens.{read, endOf, afterBlank, textStart, numberOr, numberAt, wordAt, startAt, tokenAt, readAt}
+use Rattle.tokenizer.specs.Tokens.{takeHeld, takeAt, hold, lookAt}
+use Rattle.token_stream.specs.Stream.{Tk, open-tk, close-tk, comma-tk, none-tk, bad-tk, word-tk, number-tk, Tok, tok, Str, end, then, hd, tl, size, noneThen, cons, tkIn, tokIn, toksBy, toks, before, stream}
+use Rattle.token.proofs.Tokens.{start-end}
 use Rattle.lists.proofs.Cases.{either}
 
 -- a token in front of a stream is its head, and the stream its tail

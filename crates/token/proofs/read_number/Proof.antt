@@ -1,10 +1,10 @@
--- `tokenizer::read_number` meets its contract.
+-- `token::read_number` meets its contract.
 -- Assumes nothing.
 use borrow.Author.Needs.{needs}
-use Rattle.tokenizer.proofs.read_number.Statement.{statement}
-use Rattle.tokenizer.proofs.read_number.Tie as tie
+use Rattle.token.proofs.read_number.Statement.{statement}
+use Rattle.token.proofs.read_number.Tie as tie
 use mathlib.Core.Bool.{true, false}
-use Rattle.tokenizer.proofs.Tokens.{start-end, number-is}
+use Rattle.token.proofs.Tokens.{start-end, number-is}
 
 after-plus-requires : tie.Need-after-plus-requires
 after-plus-requires c κs = search needs

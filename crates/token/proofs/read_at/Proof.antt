@@ -1,12 +1,12 @@
--- `tokenizer::read_at` meets its contract.
+-- `token::read_at` meets its contract.
 -- Assumes nothing.
 use borrow.Author.Needs.{needs}
-use Rattle.tokenizer.proofs.read_at.Statement.{statement}
-use Rattle.tokenizer.proofs.read_at.Tie as tie
+use Rattle.token.proofs.read_at.Statement.{statement}
+use Rattle.token.proofs.read_at.Tie as tie
 use mathlib.Core.Path.{sym, _∙_}
 use mathlib.Core.Bool.{true, false}
-use Rattle.tokenizer.specs.Tokens.{startAt, readAt}
-use Rattle.tokenizer.proofs.Tokens.{end-is, byte-is, other-is}
+use Rattle.token.specs.Tokens.{startAt, readAt}
+use Rattle.token.proofs.Tokens.{end-is, byte-is, other-is}
 
 skip-blanks-requires : tie.Need-skip-blanks-requires
 skip-blanks-requires c κs = search needs

@@ -12,10 +12,10 @@ use Rattle.scan.specs.Runs.{firstNot, afterOneAt}
 use Rattle.scan.proofs.Runs.{not-before, one-not-past}
 use Rattle.number.specs.declared.Lexeme.{Lexeme}
 use Rattle.number.specs.Lexeme.{isLexeme, upToStop}
-use Rattle.tokenizer.specs.declared.Found.{Found}
-use Rattle.tokenizer.specs.declared.Read.{Read}
-use Rattle.tokenizer.specs.declared.Token.the-variants.{Word}
-use Rattle.tokenizer.specs.Tokens.{read, endOf, afterBlank, textStart, numberOr, numberFrom, numberAt, wordAt, startAt, tokenAt}
+use Rattle.token.specs.declared.Found.{Found}
+use Rattle.token.specs.declared.Read.{Read}
+use Rattle.token.specs.declared.Token.the-variants.{Word}
+use Rattle.token.specs.Tokens.{read, endOf, afterBlank, textStart, numberOr, numberFrom, numberAt, wordAt, startAt, tokenAt}
 
 module _ (text : List ℕ) where
   -- a number's text starts no later than it ends

@@ -18,13 +18,13 @@ use Rattle.scan.specs.Runs.{firstNot, afterOneAt}
 use Rattle.scan.proofs.Front.{part-first}
 use Rattle.scan.proofs.Runs.{on, stop, past, not-before, not-past, first-fails, one-on, one-off}
 use Rattle.number.specs.Lexeme.{isLexeme, upToStop}
-use Rattle.tokenizer.specs.declared.Found.{Found}
-use Rattle.tokenizer.specs.declared.Read.{Read}
-use Rattle.tokenizer.specs.declared.Refusal.{Refusal}
-use Rattle.tokenizer.specs.Tokens.{badNumberAt, badAt, endOf, afterBlank, textStart, numberOr, numberAt, wordAt, startAt, tokenAt, readAt}
-use Rattle.tokenizer.specs.Stream.{Tk, open-tk, close-tk, comma-tk, none-tk, bad-tk, word-tk, number-tk, tok, Str, end, then, cons, tokIn, toksBy, toks}
-use Rattle.tokenizer.specs.Lex.{markTk, numberTk, runTk, Lexed, lexed, flush, push, lexByte, lexRun, lex}
-use Rattle.tokenizer.proofs.Stream.{read-on, read-within, none-end, plus-end}
+use Rattle.token.specs.declared.Found.{Found}
+use Rattle.token.specs.declared.Read.{Read}
+use Rattle.token.specs.declared.Refusal.{Refusal}
+use Rattle.token.specs.Tokens.{badNumberAt, badAt, endOf, afterBlank, textStart, numberOr, numberAt, wordAt, startAt, tokenAt, readAt}
+use Rattle.token_stream.specs.Stream.{Tk, open-tk, close-tk, comma-tk, none-tk, bad-tk, word-tk, number-tk, tok, Str, end, then, cons, tokIn, toksBy, toks}
+use Rattle.token_stream.specs.Lex.{markTk, numberTk, runTk, Lexed, lexed, flush, push, lexByte, lexRun, lex}
+use Rattle.token_stream.proofs.Stream.{read-on, read-within, none-end, plus-end}
 use Rattle.lists.proofs.Cases.{either}
 
 module _ (text : List ℕ) where

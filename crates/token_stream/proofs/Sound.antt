@@ -14,13 +14,14 @@ use Rattle.scan.specs.Front.{part}
 use Rattle.scan.specs.Runs.{firstNot}
 use Rattle.scan.proofs.Runs.{not-before, not-past}
 use Rattle.number.specs.Lexeme.{isLexeme}
-use Rattle.tokenizer.specs.declared.Found.{Found}
+use Rattle.token.specs.declared.Found.{Found}
 use Rattle.tokenizer.specs.declared.Held.{Held}
-use Rattle.tokenizer.specs.declared.Read.{Read}
+use Rattle.token.specs.declared.Read.{Read}
 use Rattle.tokenizer.specs.declared.Cursor.{Cursor}
-use Rattle.tokenizer.specs.Tokens.{endOf, textStart, numberOr, numberAt, wordAt, startAt, tokenAt, readAt, cursorAt, takeHeld, takeAt, hold, lookAt}
-use Rattle.tokenizer.specs.Sound.{SoundFound, SoundHeld, Sound}
-use Rattle.tokenizer.proofs.Tokens.{start-end}
+use Rattle.token.specs.Tokens.{endOf, textStart, numberOr, numberAt, wordAt, startAt, tokenAt, readAt}
+use Rattle.tokenizer.specs.Tokens.{cursorAt, takeHeld, takeAt, hold, lookAt}
+use Rattle.token_stream.specs.Sound.{SoundFound, SoundHeld, Sound}
+use Rattle.token.proofs.Tokens.{start-end}
 use Rattle.lists.proofs.Cases.{either}
 
 module _ (text : List ℕ) (p : ℕ) (h : p < length text) where

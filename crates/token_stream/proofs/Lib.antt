@@ -1,0 +1,4 @@
+pub mod Stream
+pub mod Sound
+pub mod Bridge
+pub mod Marks
