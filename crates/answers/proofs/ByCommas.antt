@@ -13,9 +13,9 @@ use Rattle.token_stream.proofs.Stream.{stream-size}
 use Rattle.store.specs.Rows.{nodeRoom, numberRoom, rowsIn, spansIn}
 use Rattle.grammar.specs.Asks.{ran, run}
 use Rattle.grammar.specs.Reading.{enough}
-use Rattle.grammar.proofs.Asks.{run-step}
-use Rattle.grammar.proofs.Loops as loops
-use Rattle.grammar.proofs.Loops.{Loop}
+use Rattle.grammar_laws.proofs.Asks.{run-step}
+use Rattle.grammar_laws.proofs.Loops as loops
+use Rattle.grammar_laws.proofs.Loops.{Loop}
 use Rattle.answers.specs.declared.State.{State}
 use Rattle.answers.specs.declared.Spot.{Spot}
 use Rattle.answers.specs.declared.Answer.{Answer}

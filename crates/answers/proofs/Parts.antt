@@ -27,7 +27,7 @@ use Rattle.store.proofs.Rows.{rows-closed}
 use Rattle.grammar.specs.Asks.{ret, ask, ran, run}
 use Rattle.grammar.specs.Tokens.{sortClose, sortComma, tkSort, sortOf}
 use Rattle.grammar.specs.Grammar.{Got, ok, refused, refusal, fill, closeBy, closing}
-use Rattle.grammar.proofs.Asks.{run-ret}
+use Rattle.grammar_laws.proofs.Asks.{run-ret}
 use Rattle.sorts.specs.Taken.{takenAt, refusalBy}
 use Rattle.sorts.proofs.Tokens.{Takes, takes, asks}
 use Rattle.answers.specs.declared.State.{State}

@@ -14,8 +14,8 @@ use Rattle.tree.specs.Tree.{Tree}
 use Rattle.tree.specs.TreeIn.{SpanIn, spanTexts, treeIn}
 use Rattle.grammar.specs.Grammar.{out, Got, ok, refused, halt}
 use Rattle.grammar.specs.Reading.{reading}
-use Rattle.grammar.proofs.WellRead.{reading-well-formed}
-use Rattle.grammar.proofs.Fuel.{reading-refusals, reading-halts, reading-kept}
+use Rattle.grammar_laws.proofs.WellRead.{reading-well-formed}
+use Rattle.grammar_laws.proofs.Fuel.{reading-refusals, reading-halts, reading-kept}
 use Rattle.store.specs.declared.ReadAnswer.{ReadAnswer}
 use Rattle.wkt.specs.Leaves.{Leaves}
 use Rattle.shape.specs.Store.{allRows, allSpans, allTexts, wellFormed, treeOf}

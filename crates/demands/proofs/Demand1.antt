@@ -32,8 +32,8 @@ use Rattle.grammar.specs.Answers.{Passes, isRefusal, isHalt, Refused, Halted}
 use Rattle.grammar.specs.Asks.{Ran, ran, run, answerIn}
 use Rattle.grammar.specs.Grammar.{Out, out, Got, ok, refused, halt, refusal, root}
 use Rattle.grammar.specs.Reading.{enough, reading}
-use Rattle.grammar.proofs.After.{accepted}
-use Rattle.grammar.proofs.Fuel.{reading-refusals, reading-halts, reading-kept}
+use Rattle.grammar_laws.proofs.After.{accepted}
+use Rattle.grammar_laws.proofs.Fuel.{reading-refusals, reading-halts, reading-kept}
 use Rattle.store.specs.declared.ReadAnswer.{ReadAnswer}
 use Rattle.wkt.specs.Leaves as read
 use Rattle.wkt.specs.Leaves.{Leaves}

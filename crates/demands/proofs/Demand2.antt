@@ -23,8 +23,8 @@ use Rattle.tree.specs.TreeIn.{spanText, spanTexts, treeIn, SpanIn}
 use Rattle.canonical_text.specs.Canonical.{canonicalText}
 use Rattle.grammar.specs.Reading.{reading, treeRead}
 use Rattle.tree.proofs.TreeIn.{trees-own}
-use Rattle.grammar.proofs.WellRead.{reading-well-formed}
-use Rattle.grammar.proofs.Fuel.{reading-kept}
+use Rattle.grammar_laws.proofs.WellRead.{reading-well-formed}
+use Rattle.grammar_laws.proofs.Fuel.{reading-kept}
 use Rattle.store.specs.declared.ReadAnswer.{ReadAnswer}
 use Rattle.store.specs.Answers.{usedRows, usedSpans, leaves-one}
 use Rattle.wkt.specs.Leaves.{Leaves, outcomeOf, answerOf, rootIn}

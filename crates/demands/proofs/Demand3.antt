@@ -26,7 +26,7 @@ use Rattle.token_stream.specs.Lex.{Lexed, markTk, flush, lexByte, lexRun, lex}
 use Rattle.grammar.specs.Asks.{bind, run, answerIn}
 use Rattle.grammar.specs.Grammar.{out, Got, ok, refused, halt, refusal, rootHead, geometryBy, geometry, root}
 use Rattle.grammar.specs.Reading.{enough, reading, treeRead}
-use Rattle.grammar.proofs.Canon.{read-back}
+use Rattle.grammar_laws.proofs.Canon.{read-back}
 use Rattle.store.specs.declared.ReadAnswer.{ReadAnswer}
 use Rattle.shape.specs.Numbers.{areNumbers}
 use Rattle.shape.specs.Store.{allTexts, areWhole, treeOf, wellFormed}

@@ -27,7 +27,7 @@ use Rattle.token_stream.proofs.Bridge.{toks-lex}
 use Rattle.grammar.specs.Asks.{run}
 use Rattle.grammar.specs.Grammar.{root}
 use Rattle.grammar.specs.Reading.{enough}
-use Rattle.grammar.proofs.Fuel.{lex-size}
+use Rattle.grammar_laws.proofs.Fuel.{lex-size}
 use Rattle.demands.specs.Steps.{Came, read-whole}
 use Rattle.demands.specs.Faults.{later, numberText, Starts, TokensStart}
 use Rattle.demands.proofs.Steps.{Own, GotIn, root-in}

@@ -23,7 +23,7 @@ use Rattle.grammar.specs.Grammar.{out, ok, root}
 use Rattle.grammar.specs.Tokens.{sortClose, sortOf, placeOf}
 use Rattle.grammar.specs.Reading.{enough, reading}
 use Rattle.grammar.specs.LastToken.{lastOf, lastToken, rootParts}
-use Rattle.grammar.proofs.After.{after-root, ends-closed}
+use Rattle.grammar_laws.proofs.After.{after-root, ends-closed}
 use Rattle.store.specs.declared.ReadAnswer.{ReadAnswer}
 use Rattle.demands.specs.Calls.{Read, usedNodes, usedNumbers}
 use Rattle.demands.specs.Faults.{ByteAt, Starts}

@@ -27,7 +27,7 @@ use Rattle.token_stream.specs.Lex.{markTk, numberTk, runTk, Lexed, lexed, flush
 use Rattle.token_stream.proofs.Bridge.{toks-lex}
 use Rattle.grammar.specs.Grammar.{Out, out, fill, isEmptyTok}
 use Rattle.grammar.specs.Tokens.{sortNone, sortOpen, sortClose, sortComma, sortNumber, sortWord, tkSort, tkText, sortOf, placeOf, textOf}
-use Rattle.grammar.proofs.Tokens.{ToksIn, hd-in, tl-in, place-in, place-before, lex-in}
+use Rattle.grammar_laws.proofs.Tokens.{ToksIn, hd-in, tl-in, place-in, place-before, lex-in}
 use Rattle.demands.specs.Steps.{Open, node, Due, root-due, part-due, header-due, paren-due, number-due, read-whole, NameDue, of-root, of-child, Child, child-ring, child-line, child-polygon, child-point, Axis, axis-x, axis-y, axis-z, axis-m, Came, begins, named-bare, named-joined, ending-taken, flat, nameless, paren-taken, empty-taken, point-begun, coord-begun, number-taken, coord-read, comma-taken, close-taken, parts-filled, oneOf, Stopping, Refusing, no-node-row, no-bare-row, no-number-row, too-many, at-root, at-child, at-header, at-paren, at-number, at-closing, behind-refused, stands}
 use Rattle.demands.specs.Faults.{later, PlaceOf, over-limit, ill-formed, stopped, at-fault}
 use Rattle.demands.specs.Rooms.{EnoughNodes, EnoughNumbers}

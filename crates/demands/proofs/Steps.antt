@@ -26,8 +26,8 @@ use Rattle.token_stream.proofs.Stream.{size-tl}
 use Rattle.grammar.specs.Asks.{P, ret, ask, look, bind, Ran, ran, run}
 use Rattle.grammar.specs.Tokens.{sortBad, sortOpen, sortClose, sortComma, sortNumber, sortWord, sortOf, placeOf, startOf, textOf, refusalAt}
 use Rattle.grammar.specs.Grammar.{Out, out, Got, ok, refused, halt, Head, opens, empty, wrong, refusal, andThen, fill, rowsUsed, items, closing, addNode, addNumber, number, thenNumber, ifAsked, coord, pointBody, opened, isEmptyTok, opening, opener, headerEnding, header, byName, childHead, rootHead, lineBody, parens, lineIn, lineOf, linesBody, polygonIn, polygonOf, polygonsBody, pointIn, barePoint, pointOf, pointsBody, multi, simple, geometryBy, childOf, collection, geometry, root}
-use Rattle.grammar.proofs.Asks.{after, run-bind, run-size}
-use Rattle.grammar.proofs.WellRead.{isKind, knownName, name-known}
+use Rattle.grammar_laws.proofs.Asks.{after, run-bind, run-size}
+use Rattle.grammar_laws.proofs.WellRead.{isKind, knownName, name-known}
 use Rattle.demands.specs.Steps.{Open, node, Due, root-due, part-due, header-due, paren-due, number-due, read-whole, NameDue, of-root, of-child, Child, child-ring, child-line, child-polygon, child-point, Axis, axis-x, axis-y, axis-z, axis-m, Came, begins, named-bare, named-joined, ending-taken, flat, nameless, paren-taken, empty-taken, point-begun, coord-begun, number-taken, coord-read, comma-taken, close-taken, parts-filled, collections, oneOf, Stopping, Refusing, no-node-row, no-bare-row, no-number-row, too-many, at-root, at-child, at-header, at-paren, at-number, at-closing, behind-refused, stands}
 use Rattle.demands.specs.Faults.{Other, AtFault, no-node, no-number, too-deep, bad-number, not-ascii, no-root, no-name, no-header, no-ending, not-opened, not-closed, no-x, no-y, no-z, no-m, no-child, later, Among}
 

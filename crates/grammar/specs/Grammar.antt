@@ -53,7 +53,7 @@ abbrev pub rowsUsed : Out → ℕ
 rowsUsed (out rs ss) = length rs
 
 -- [comma_many] parts by commas, of the node in row i, which has n of them so far; g reads one.
--- F counts down from more than any text has tokens (`proofs/Fuel`: it never runs out)
+-- F counts down from more than any text has tokens (`grammar_laws/proofs/Fuel`: it never runs out)
 unfoldable pub items : (Out → P Got) → ℕ → ℕ → ℕ → Out → P Got
 items g zero n i o = ret (refused (refusal 0 0))
 items g (suc F) n i o =

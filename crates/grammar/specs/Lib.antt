@@ -7,3 +7,4 @@ pub mod LastToken
 pub mod Edges
 pub mod Lasts
 pub mod Refused
+pub mod Counts

@@ -1,1 +1,1 @@
-// The grammar of well-known text and its laws: definitions in specs/, theorems in proofs/, and no code.
+// The grammar of well-known text: definitions and worked examples in specs/, and no code. Its laws are `grammar_laws`.

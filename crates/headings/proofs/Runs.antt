@@ -9,7 +9,7 @@ use Rattle.token_stream.specs.Stream.{Tok, tokIn, stream}
 use Rattle.token_stream.proofs.Stream.{take-head, take-tail, look-same}
 use Rattle.grammar.specs.Asks.{P, ret, ask, look, Ran, ran, run}
 use Rattle.grammar.specs.Grammar as spec
-use Rattle.grammar.proofs.Asks.{run-ret, run-ask, run-look}
+use Rattle.grammar_laws.proofs.Asks.{run-ret, run-ask, run-look}
 use Rattle.headings.specs.declared.Head.{Head}
 use Rattle.headings.specs.Heads.{headOf, headEnd, RanAt, ranAt, runAt, MetHead}
 

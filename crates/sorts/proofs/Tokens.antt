@@ -24,7 +24,7 @@ use Rattle.token_stream.proofs.Sound.{take-sound}
 use Rattle.token_stream.proofs.Marks.{take-free, open-is, open-taken, open-not, close-taken}
 use Rattle.grammar.specs.Tokens.{sortOpen, sortClose, sortNumber, tkSort, sortOf, placeOf, tkStart, startOf, textOf, refusalAt}
 use Rattle.grammar.specs.Asks.{P, ask, run}
-use Rattle.grammar.proofs.Asks.{run-ask}
+use Rattle.grammar_laws.proofs.Asks.{run-ask}
 use Rattle.sorts.specs.declared.Taken.{Taken}
 use Rattle.sorts.specs.declared.Clipped.{Clipped}
 use Rattle.sorts.specs.Taken.{clipped, toldToken, told, takenAt, refusalBy}

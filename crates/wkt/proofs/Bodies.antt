@@ -27,7 +27,7 @@ use Rattle.grammar.specs.Tokens.{sortOpen, sortOf}
 use Rattle.grammar.specs.Grammar as spec
 use Rattle.grammar.specs.Grammar.{Out, Got, refused, refusal, opens, empty, wrong, addNode, andThen, pointBody, opened, opener, lineBody, parens, lineIn, lineOf, linesBody, polygonIn, polygonOf, polygonsBody, pointIn, barePoint, pointOf, pointsBody, multi, simple, childHead, rootHead, geometryBy, childOf, collection, geometry}
 use Rattle.grammar.specs.Reading.{enough}
-use Rattle.grammar.proofs.Asks.{run-ret, run-step, run-ask, run-look}
+use Rattle.grammar_laws.proofs.Asks.{run-ret, run-step, run-ask, run-look}
 use Rattle.sorts.proofs.Tokens.{opens-place, opens-sort, opens-rest, other-sort, other-stays}
 use Rattle.headings.specs.declared.Head.{Head}
 use Rattle.headings.specs.declared.Head.the-variants.{Opens, Empty, Wrong}

@@ -22,7 +22,7 @@ use Rattle.store.proofs.Rows.{spans-length, spans-put, putSpan-length, spans-be
 use Rattle.grammar.specs.Asks.{ran, run}
 use Rattle.grammar.specs.Tokens.{sortNumber, sortOf}
 use Rattle.grammar.specs.Grammar.{refusal, andThen, number, thenNumber, ifAsked, coord}
-use Rattle.grammar.proofs.Asks.{run-ret, run-step}
+use Rattle.grammar_laws.proofs.Asks.{run-ret, run-step}
 use Rattle.sorts.specs.declared.Taken.{Taken}
 use Rattle.sorts.specs.Taken.{taken, refusalBy}
 use Rattle.sorts.proofs.Tokens.{Takes, asks}

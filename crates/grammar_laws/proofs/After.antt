@@ -20,14 +20,14 @@ use Rattle.utf8.specs.Utf8.{isUtf8, firstIll}
 use Rattle.token_stream.specs.Stream.{Tok, tok, none-tk, close-tk, Str, hd, tl}
 use Rattle.token_stream.specs.Lex.{lex}
 use Rattle.lists.proofs.Cases.{either}
 use Rattle.grammar.specs.Asks.{P, ret, ask, look, bind, run, answerIn}
 use Rattle.grammar.specs.Tokens.{sortNone, sortOpen, sortClose, sortWord, sortOf, placeOf, textOf}
 use Rattle.grammar.specs.Grammar.{Out, out, Got, ok, refused, halt, Head, opens, empty, wrong, refusal, andThen, rowsUsed, closing, addNode, opened, isEmptyTok, opening, opener, headerEnding, header, byName, rootHead, lineIn, polygonIn, pointIn, multi, simple, geometryBy, collection, geometry, root}
 use Rattle.grammar.specs.Reading.{enough, reading}
 use Rattle.grammar.specs.LastToken.{lastOf, lastToken, rootParts}
 use Rattle.grammar.specs.Answers.{Passes}
-use Rattle.grammar.proofs.Tokens.{TokIn, ToksIn, hd-in, tl-in, place-before, lex-in}
-use Rattle.grammar.proofs.Unread.{later}
+use Rattle.grammar_laws.proofs.Tokens.{TokIn, ToksIn, hd-in, tl-in, place-before, lex-in}
+use Rattle.grammar_laws.proofs.Unread.{later}
 
 -- ---- whatever tokens a reader is fed, Q holds of its answer and the last token that it took or looked at (z, if there is none)
 abbrev Last : {A : Type 0} → (A → Tok → Type 0) → Tok → P A → Type 0

@@ -9,18 +9,18 @@ use lib.ListN.{length, length-map}
 use borrow.Author.Tests.{le-ltb}
 use Rattle.limits.specs.Limits.{textLimit, depthLimit}
 use Rattle.store.specs.Rows.{Row, Span}
 use Rattle.grammar.specs.Grammar.{out, ok}
 use Rattle.grammar.specs.Reading.{enough, reading}
 use Rattle.lists.specs.Lists.{All}
 use Rattle.grammar.specs.Answers.{Kept}
 use Rattle.tree.specs.Tree.{Tree, rows, texts, Lexeme, GoodTree}
 use Rattle.canonical_text.specs.Canonical.{canonicalText}
 use Rattle.tree.specs.TreeIn.{spanText, spanTexts, treeIn, WellFormed}
 use Rattle.tree.proofs.TreeIn.{TreesOwn, trees-own, span-lexemes}
-use Rattle.grammar.proofs.Fuel.{lex-size, reading-kept}
-use Rattle.grammar.proofs.WellRead.{reading-well-formed}
-use Rattle.grammar.proofs.TokensBack.{tokens-back}
-use Rattle.grammar.proofs.Ascii.{tree-ascii, ascii-utf8}
+use Rattle.grammar_laws.proofs.Fuel.{lex-size, reading-kept}
+use Rattle.grammar_laws.proofs.WellRead.{reading-well-formed}
+use Rattle.grammar_laws.proofs.TokensBack.{tokens-back}
+use Rattle.grammar_laws.proofs.Ascii.{tree-ascii, ascii-utf8}
 
 -- rows and number texts that reading a text gives
 pub record ReadBack (N M : ℕ) (text : List ℕ) (rs : List Row) (ns : List (List ℕ)) : Type 0 where

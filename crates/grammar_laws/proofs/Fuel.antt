@@ -28,15 +28,15 @@ use Rattle.token_stream.specs.Lex.{lex}
 use Rattle.token_stream.proofs.Stream.{size-tl, stream-size}
 use Rattle.lists.proofs.Cases.{either}
 use Rattle.token_stream.proofs.Bridge.{toks-lex}
 use Rattle.grammar.specs.Asks.{P, ret, ask, look, bind, Ran, ran, run, answerIn, leftIn}
 use Rattle.grammar.specs.Tokens.{sortOpen, sortClose, sortComma, sortNumber, sortWord, sortOf, placeOf, startOf, textOf}
 use Rattle.grammar.specs.Grammar.{Out, out, Got, ok, refused, halt, Head, opens, empty, wrong, refusal, andThen, fill, rowsUsed, items, closing, addNode, addNumber, number, thenNumber, ifAsked, coord, pointBody, opened, isEmptyTok, opening, opener, headerEnding, header, byName, childHead, rootHead, lineBody, parens, lineIn, lineOf, linesBody, polygonIn, polygonOf, polygonsBody, pointIn, barePoint, pointOf, pointsBody, multi, simple, geometryBy, childOf, collection, geometry, root}
 use Rattle.grammar.specs.Reading.{enough, reading}
 use Rattle.lists.specs.Lists.{All}
 use Rattle.grammar.specs.Answers.{Passes, isRefusal, Refused, Halted, Kept}
 use Rattle.tree.specs.TreeIn.{NumberIn, SpanIn}
-use Rattle.grammar.proofs.Asks.{after, run-bind}
-use Rattle.grammar.proofs.Tokens.{TokIn, ToksIn, hd-in, tl-in, place-in, refusal-in, number-in, lex-in}
+use Rattle.grammar_laws.proofs.Asks.{after, run-bind}
+use Rattle.grammar_laws.proofs.Tokens.{TokIn, ToksIn, hd-in, tl-in, place-in, refusal-in, number-in, lex-in}
 
 all-snoc : {A : Type 0} (Q : A → Type 0) (l : List A) (a : A) → All Q l → Q a → All Q (l ++ a ∷ [])
 unfolding All

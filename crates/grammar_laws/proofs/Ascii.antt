@@ -21,8 +21,8 @@ use Rattle.lists.proofs.Cases.{either}
 use Rattle.lists.specs.Lists.{All}
 use Rattle.tree.specs.Tree.{pointN, lineN, polygonN, multipointN, multilineN, multipolygonN, collectionN, Tree, coordTexts, lineTexts, polygonTexts, nodeTexts, noTexts, texts, Lexeme}
 use Rattle.canonical_text.specs.Canonical.{needsPlus, spell, putSpelled, each, separated, putCoord, putParts, putNamed, stringOf, putDimension, putWith, putPoint, putLine, putPolygon, putGeometry, putNothing, putTree}
-use Rattle.grammar.proofs.Lexemes.{every-join, lexeme-ascii}
-use Rattle.grammar.proofs.TokensBack.{all-flat}
+use Rattle.grammar_laws.proofs.Lexemes.{every-join, lexeme-ascii}
+use Rattle.grammar_laws.proofs.TokensBack.{all-flat}
 
 abbrev pub Ascii : List ℕ → Type 0
 Ascii l = every isAscii l ≡ true

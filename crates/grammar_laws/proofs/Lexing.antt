@@ -17,7 +17,7 @@ use Rattle.lists.proofs.Lists.{every-head, every-tail}
 use Rattle.token_stream.specs.Stream.{open-tk, close-tk, comma-tk, word-tk, number-tk, tok, Str, end, then}
 use Rattle.token_stream.specs.Lex.{markTk, numberTk, runTk, lexed, flush, push, lexByte, lexRun, lex}
 use Rattle.canonical_text.specs.Canonical.{spell}
-use Rattle.grammar.proofs.Lexemes.{lexeme-inner, nil-lexeme, bare-first}
+use Rattle.grammar_laws.proofs.Lexemes.{lexeme-inner, nil-lexeme, bare-first}
 
 -- the place after x
 abbrev pub adv : ℕ → List ℕ → ℕ

@@ -23,15 +23,15 @@ use Rattle.utf8.specs.Utf8.{isUtf8}
 use Rattle.token_stream.specs.Stream.{Tok, Str, hd, tl}
 use Rattle.token_stream.specs.Lex.{lex}
 use Rattle.lists.proofs.Cases.{either}
 use Rattle.grammar.specs.Asks.{P, ret, ask, look, bind, run, answerIn}
 use Rattle.grammar.specs.Tokens.{sortOpen, sortClose, sortComma, sortNumber, sortWord, sortOf, placeOf, startOf, textOf}
 use Rattle.grammar.specs.Grammar.{Out, out, Got, ok, refused, halt, Head, opens, empty, wrong, andThen, fill, items, closing, addNode, takeNumber, number, thenNumber, ifAsked, coord, pointBody, opened, isEmptyTok, opening, opener, headerEnding, header, byName, childHead, rootHead, lineBody, parens, lineIn, lineOf, linesBody, polygonIn, polygonOf, polygonsBody, pointIn, barePoint, pointOf, pointsBody, multi, simple, geometryBy, childOf, collection, geometry, root}
 use Rattle.grammar.specs.Reading.{enough, reading}
 use Rattle.lists.specs.Lists.{All}
 use Rattle.tree.specs.Tree.{Coord, Node, pointN, lineN, polygonN, multipointN, multilineN, multipolygonN, collectionN, rowsWith, noRows, pointRows, lineRows, polygonRows, nodeRows, rows, coordTexts, lineTexts, polygonTexts, nodeTexts, noTexts, texts, IsDimension, CoordShape, LineShape, PolygonShape, NodeShape, NoShape, Shape}
 use Rattle.tree.specs.TreeIn.{spanText, spanTexts, WellFormed}
 use Rattle.tree.proofs.TreeIn.{tree-in}
-use Rattle.grammar.proofs.Fuel.{reading-kept}
+use Rattle.grammar_laws.proofs.Fuel.{reading-kept}
 
 -- ---- whatever tokens a reader is fed, Q holds of its answer
 abbrev Every : {A : Type 0} → (A → Type 0) → P A → Type 0

@@ -8,10 +8,10 @@ use lib.Dec.{eqb}
 use borrow.Author.Tests.{eq-eqb, ne-eqb}
 use Rattle.token.specs.declared.Refusal.{Refusal}
 use Rattle.token_stream.specs.Stream.{Tok, Str, end, then, hd, tl, size}
 use Rattle.grammar.specs.Asks.{P, ret, ask, look, ran, run}
 use Rattle.grammar.specs.Tokens.{sortNone, sortComma, sortOf}
 use Rattle.grammar.specs.Grammar.{Out, Got, ok, refused, halt, andThen, fill, items}
-use Rattle.grammar.proofs.Asks.{run-step, run-size, run-ask, run-look, run-ret}
+use Rattle.grammar_laws.proofs.Asks.{run-step, run-size, run-ask, run-look, run-ret}
 
 -- behind a token a stream is shorter
 size-less : (s : Str) → (sortOf (hd s) ≡ sortNone → ⊥) → size (tl s) < size s

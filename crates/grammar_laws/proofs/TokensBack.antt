@@ -23,16 +23,16 @@ use Rattle.store.specs.Rows.{Row, freshRow, Span, span, closeIn}
 use Rattle.tree.proofs.Closed.{closed-rows}
 use Rattle.token_stream.specs.Stream.{word-tk, tok, Str, then, hd, tl, size}
 use Rattle.token_stream.specs.Lex.{lex}
 use Rattle.grammar.specs.Asks.{P, ret, ask, look, bind, ran, run, answerIn}
 use Rattle.grammar.specs.Tokens.{sortClose, sortComma, sortOf}
 use Rattle.grammar.specs.Grammar.{Out, out, Got, ok, opens, empty, wrong, refusal, andThen, items, closing, addNode, number, thenNumber, ifAsked, coord, pointBody, opened, opening, opener, headerEnding, header, byName, childHead, rootHead, lineBody, parens, lineIn, lineOf, linesBody, polygonIn, polygonOf, polygonsBody, pointIn, pointOf, pointsBody, multi, simple, geometryBy, childOf, collection, geometry, root}
 use Rattle.lists.specs.Lists.{All}
 use Rattle.tree.specs.Tree.{Coord, Node, pointN, lineN, polygonN, multipointN, multilineN, multipolygonN, collectionN, Tree, rowsWith, noRows, pointRows, lineRows, polygonRows, nodeRows, rows, coordTexts, lineTexts, polygonTexts, nodeTexts, noTexts, texts, IsDimension, CoordShape, LineShape, PolygonShape, NodeShape, NoShape, Shape, Lexeme, GoodTree}
 use Rattle.canonical_text.specs.Canonical.{spell, putSpelled, each, separated, putCoord, putParts, putNamed, stringOf, putDimension, putWith, putPoint, putLine, putPolygon, putGeometry, putNothing, putTree}
 use Rattle.tree.specs.TreeIn.{spanText, spanTexts}
-use Rattle.grammar.proofs.Asks.{after, run-bind, run-step, run-size}
-use Rattle.grammar.proofs.Loops.{Loop, first, more, last}
-use Rattle.grammar.proofs.Lexing.{adv, Stop, IsWord, lex-word, lex-number, lex-blank, lex-open, lex-close, lex-comma, stop-blank, stop-open, stop-close, stop-comma, stop-end}
+use Rattle.grammar_laws.proofs.Asks.{after, run-bind, run-step, run-size}
+use Rattle.grammar_laws.proofs.Loops.{Loop, first, more, last}
+use Rattle.grammar_laws.proofs.Lexing.{adv, Stop, IsWord, lex-word, lex-number, lex-blank, lex-open, lex-close, lex-comma, stop-blank, stop-open, stop-close, stop-comma, stop-end}
 
 -- ---- lists
 all-left : {A : Type 0} (Q : A → Type 0) (a b : List A) → All Q (a ++ b) → All Q a
