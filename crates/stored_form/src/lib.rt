@@ -30,6 +30,12 @@ pub enum Head {
     Refused(u32, usize),
 }
 
+// What a run of fields comes to: the place of the first that is faulty; or whether what they hold is well formed, and the place after them.
+pub enum Seen {
+    Faulty(usize),
+    Whole(bool, usize),
+}
+
 pub fn version_1() -> Version
     ensures { λ r. ⌜ r ≡ version1 ⌝ }
 {

@@ -26,11 +26,12 @@ use Rattle.fields.proofs.Fields.{has-room, sized-field}
 use Rattle.stored_form.specs.declared.Version.{Version}
 use Rattle.stored_form.specs.declared.Counts.{Counts}
 use Rattle.stored_form.specs.declared.Head.the-variants as head
-use Rattle.stored_reading.specs.declared.Seen.{Seen}
-use Rattle.stored_reading.specs.declared.Seen.the-variants.{Faulty, Whole}
+use Rattle.stored_form.specs.declared.Seen.{Seen}
+use Rattle.stored_form.specs.declared.Seen.the-variants.{Faulty, Whole}
 use Rattle.stored_form.specs.Form.{nodeTag, numberTag, nodeSize, firstNode, nodePlace}
 use Rattle.stored_form.specs.Reading.{countsAt, headIn, readingOf, Run, faulty, whole, rowTold, nodeAfter, nodesFrom, spanTold, numbersFrom, placeAfter, roomed, checked, afterNumbers, afterNodes, Right}
-use Rattle.stored_reading.specs.Looks.{nodesWell, nodesSeen, numbersWell, numbersSeen, headedOf, NodesSeen, NumbersGood, Filled}
+use Rattle.stored_numbers.specs.Looks.{numbersWell, numbersSeen}
+use Rattle.stored_reading.specs.Looks.{nodesWell, nodesSeen, headedOf, NodesSeen, NumbersGood, Filled}
 use Rattle.stored_form.proofs.Runs.{whole-one, no-field, first, fields-count, fields-fewer}
 use Rattle.stored_reading.proofs.Looks.{node-room}
 

@@ -1,38 +1,28 @@
 -- What private functions of the reader tell, and what they ask.
 use mathlib.Core.Path.{_≡_}
-use mathlib.Core.Bool.{Bool, true, cond}
+use mathlib.Core.Bool.{Bool, true}
 use mathlib.Core.List.{List, [], _∷_}
 use Prim.Native.Nat.{ℕ, _^_, _≤_, _<_}
-use lib.Dec.{ltb}
 use lib.ListN.{length}
-use Rattle.lists.specs.Lists.{every}
 use Rattle.lists.specs.Options.{isSome}
-use Rattle.number.specs.Lexeme.{isLexeme}
-use Rattle.store.specs.Rows.{Row, Span, padded}
+use Rattle.store.specs.Rows.{Row, padded}
 use Rattle.store.specs.Answers.{Outcome}
-use Rattle.tree.specs.TreeIn.{spanTexts}
 use Rattle.nodes.specs.Nodes.{above, meets}
 use Rattle.stored_form.specs.declared.Counts.{Counts}
 use Rattle.stored_form.specs.declared.Head.the-variants as head
 use Rattle.stored_form.specs.Form.{firstNode}
-use Rattle.stored_form.specs.Reading.{Run, faulty, whole, nodesFrom, numbersFrom, afterHead}
-use Rattle.stored_reading.specs.declared.Seen.{Seen}
-use Rattle.stored_reading.specs.declared.Seen.the-variants as seen
+use Rattle.stored_form.specs.Reading.{Run, faulty, whole, nodesFrom, afterHead}
+use Rattle.stored_form.specs.declared.Seen.{Seen}
+use Rattle.stored_form.specs.declared.Seen.the-variants as seen
+use Rattle.stored_numbers.specs.Looks.{numbersSeen}
 
--- whether nodes are a tree that needs so many numbers; whether numbers are lexemes and nothing follows
+-- whether nodes are a tree that needs so many numbers
 abbrev pub nodesWell : ℕ → Run Row → Seen
 nodesWell numbers (faulty at) = seen.Faulty at
 nodesWell numbers (whole rs at) = seen.Whole (isSome (meets numbers (above ∷ []) 0 0 rs)) at
 
 abbrev pub nodesSeen : ℕ → List ℕ → ℕ → ℕ → ℕ → Seen
 nodesSeen w bytes first count numbers = nodesWell numbers (nodesFrom w bytes first count)
-
-abbrev pub numbersWell : List ℕ → Run Span → Seen
-numbersWell bytes (faulty at) = seen.Faulty at
-numbersWell bytes (whole ss at) = cond (ltb at (length bytes)) (seen.Faulty at) (seen.Whole (every isLexeme (spanTexts ss)) at)
-
-abbrev pub numbersSeen : List ℕ → ℕ → ℕ → Seen
-numbersSeen bytes first count = numbersWell bytes (numbersFrom bytes first count)
 
 -- what is known once the head has told its counts
 pub record Headed (w : ℕ) (bytes : List ℕ) (c : Counts) : Type 0 where

@@ -1,6 +1,5 @@
 // Reading a stored tree: the head, then every field is looked at before a row is asked for, then the rows are put. The reader is made over any version of
 // the form; a version's entry names it.
-use fields::Found;
 use fields::HEAD;
 use refusals::FAULTY_FIELD;
 use refusals::ILL_FORMED_STORE;
@@ -13,7 +12,7 @@ use stored_form::Counts;
 use stored_form::HEAD_TAG;
 use stored_form::Head;
 use stored_form::NODE_TAG;
-use stored_form::NUMBER_TAG;
+use stored_form::Seen;
 use stored_form::Version;
 use walk::CELLS;
 use walk::Entered;
@@ -25,7 +24,7 @@ ghost use Rattle.store.specs.Rows.{nodeRoom, numberRoom, flatRows, flatSpans};
 ghost use Rattle.store.specs.Answers.{Leaves};
 ghost use Rattle.stored_form.specs.Form.{version1, Known};
 ghost use Rattle.stored_form.specs.Reading.{headIn, nodesFrom, numbersFrom, placeAfter, readingOf, Right};
-ghost use Rattle.stored_reading.specs.Looks.{nodesSeen, numbersSeen, headedOf, Headed, NodesSeen, NumbersGood, Filled};
+ghost use Rattle.stored_reading.specs.Looks.{nodesSeen, headedOf, Headed, NodesSeen, NumbersGood, Filled};
 
 // Where the version stands, and where the counts begin.
 const VERSION_AT: usize = 3;
@@ -34,12 +33,6 @@ const COUNTS_AT: usize = 4;
 
 // The bytes of a node before its parts: kind and dimension.
 const BEFORE_PARTS: usize = 2;
-
-// What a run of fields comes to: the place of the first that is faulty; or whether what they hold is well formed, and the place after them.
-enum Seen {
-    Faulty(usize),
-    Whole(bool, usize),
-}
 
 fn look_at_head(bytes: &[u8], v: Version) -> Head
     requires { ⌜ Known v ⌝ }
@@ -105,29 +98,6 @@ fn look_at_nodes(bytes: &[u8], width: usize, first: usize, count: usize, numbers
         i += 1;
     }
     Seen::Whole(well & walk::has_ended(&cells, numbers, w), at)
-}
-
-// The `count` number fields from `first` on, after which nothing may follow: whether each is a lexeme.
-fn look_at_numbers(bytes: &[u8], first: usize, count: usize) -> Seen
-    ensures { λ r. ⌜ r ≡ numbersSeen (now (bytes .entry)) first count ⌝ }
-{
-    let mut good = true;
-    let mut at = first;
-    let mut i = 0;
-    while i < count {
-        let found = fields::field_at(bytes, at, NUMBER_TAG);
-        let Found::Whole(end) = found else {
-            return Seen::Faulty(at);
-        };
-        let start = at + HEAD;
-        good = good & short_numbers::front_is_lexeme(&bytes[start..], end - start);
-        at = end;
-        i += 1;
-    }
-    if at < bytes.len() {
-        return Seen::Faulty(at);
-    }
-    Seen::Whole(good, at)
 }
 
 // The place of the number field after `count` others.
@@ -230,7 +200,7 @@ fn read_numbers(
     requires { ⌜ Headed (v .width) (now bytes) c × NodesSeen (v .width) (now bytes) c well middle ⌝ }
     ensures { λ a. ⌜ Leaves (headedOf (v .width) (nodeRoom (now (nodes .entry))) (numberRoom (now (numbers .entry))) (now (bytes .entry)) c) (now (nodes .entry)) (now (numbers .entry)) a (now (nodes .exit)) (now (numbers .exit)) ⌝ }
 {
-    let seen = look_at_numbers(bytes, middle, c.numbers);
+    let seen = stored_numbers::look_at_numbers(bytes, middle, c.numbers);
     match seen {
         Seen::Faulty(at) => store::refuse(nodes, numbers, FAULTY_FIELD, at),
         Seen::Whole(good, _) => {

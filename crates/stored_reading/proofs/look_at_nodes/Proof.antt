@@ -16,7 +16,7 @@ use lib.ListN.{length, length-replicate}
 use borrow.Author.Needs.{needs}
 use borrow.Author.Tests.{not-true, not-false}
 use Rattle.walk.specs.Walk.{cells}
-use Rattle.stored_reading.specs.declared.Seen.the-variants.{Whole}
+use Rattle.stored_form.specs.declared.Seen.the-variants.{Whole}
 use Rattle.stored_form.specs.Reading.{nodeAfter}
 use Rattle.stored_reading.proofs.Looks.{LookingNodes, nodes-begin, node-room, node-faulty, node-passed, node-to, node-ill, nodes-end}
 

@@ -5,13 +5,13 @@ use Rattle.stored_reading.proofs.read_numbers.Reads as reads
 use Rattle.stored_reading.proofs.read_numbers.Lts as lts
 use Rattle.store.proofs.refuse.Reads as refuse-reads
 use Rattle.stored_reading.proofs.fill.Reads as fill-reads
-use Rattle.stored_reading.proofs.look_at_numbers.Reads as look-at-numbers-reads
+use Rattle.stored_numbers.proofs.look_at_numbers.Reads as look-at-numbers-reads
 use mathlib.Core.Path.{_≡_, sym, _∙_}
 use borrow.Author.Tests.{not-true, not-false}
 use Rattle.lists.proofs.Cases.{and-both}
 use Rattle.stored_reading.proofs.Outcomes.{leaves-as, numbers-fault, fields-ill}
 use mathlib.Core.Bool.{true}
-use Rattle.stored_reading.specs.declared.Seen.the-variants.{Whole}
+use Rattle.stored_form.specs.declared.Seen.the-variants.{Whole}
 
 look-at-numbers-requires : tie.Need-look-at-numbers-requires
 look-at-numbers-requires c κs = search needs

@@ -13,7 +13,7 @@ use Rattle.scan.specs.Bytes.{isDigit, isSign, isPoint}
 use Rattle.number.specs.Lexeme.{isPlain}
 use Rattle.number.proofs.Equal.{sign-digit, sign-point}
 use Rattle.number.proofs.Plain.{pass, pass-plain, alone}
-use Rattle.short_numbers.specs.Weights.{weight, weigh, signWidth}
+use Rattle.stored_numbers.specs.Weights.{weight, weigh, signWidth}
 
 light : (points others n : ℕ) (l : List ℕ) → points + weigh l ≤ 1 → pass false points others n l ≡ ltb (others + weigh l) n
 unfolding pass weigh

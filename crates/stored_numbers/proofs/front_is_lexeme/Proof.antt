@@ -1,4 +1,4 @@
--- `short_numbers::front_is_lexeme` meets its contract.
+-- `stored_numbers::front_is_lexeme` meets its contract.
 -- Assumes nothing.
 use mathlib.Core.Path.{_≡_, sym, _∙_}
 use Prim.Native.Nat.{_-_}
@@ -6,8 +6,8 @@ use native.Mathlib.Omega.{arith}
 use lib.Seq.{take-all}
 use Rattle.number.proofs.Plain.{plain-lexeme}
 use borrow.Author.Needs.{needs}
-use Rattle.short_numbers.proofs.front_is_lexeme.Statement.{statement}
-use Rattle.short_numbers.proofs.front_is_lexeme.Tie as tie
+use Rattle.stored_numbers.proofs.front_is_lexeme.Statement.{statement}
+use Rattle.stored_numbers.proofs.front_is_lexeme.Tie as tie
 
 is-told-plain-requires : tie.Need-is-told-plain-requires
 is-told-plain-requires c κs = search needs

@@ -1,8 +1,8 @@
--- `short_numbers::lesser` meets its contract.
+-- `stored_numbers::lesser` meets its contract.
 -- Assumes nothing.
 use borrow.Author.Tests.{lt-ltb, le-ltb}
-use Rattle.short_numbers.proofs.lesser.Statement.{statement}
-use Rattle.short_numbers.proofs.lesser.Tie as tie
+use Rattle.stored_numbers.proofs.lesser.Statement.{statement}
+use Rattle.stored_numbers.proofs.lesser.Tie as tie
 
 returns : tie.Need-returns
 returns c = rw (lt-ltb _ _ (c .if1 .taken))

@@ -1,13 +1,13 @@
--- `short_numbers::is_told_plain` meets its contract.
+-- `stored_numbers::is_told_plain` meets its contract.
 -- Assumes nothing.
 use native.Mathlib.Omega.{arith}
 use lib.ListN.{getD}
 use borrow.Author.Tests.{leb-true, ltb-true}
 use Rattle.lists.proofs.Cases.{and-both}
-use Rattle.short_numbers.proofs.Light.{not-told, told-digit, told-plain, narrow, some}
+use Rattle.stored_numbers.proofs.Light.{not-told, told-digit, told-plain, narrow, some}
 use borrow.Author.Needs.{needs}
-use Rattle.short_numbers.proofs.is_told_plain.Statement.{statement}
-use Rattle.short_numbers.proofs.is_told_plain.Tie as tie
+use Rattle.stored_numbers.proofs.is_told_plain.Statement.{statement}
+use Rattle.stored_numbers.proofs.is_told_plain.Tie as tie
 
 returns : tie.Need-returns
 returns c = not-told
@@ -37,7 +37,7 @@ returns-4 : tie.Need-returns-4
 returns-4 c = not-told
 
 weight-in-requires : tie.Need-weight-in-requires
-weight-in-requires c κs = (omega (arith, c .if4 .left), omega (arith, narrow (getD (c .before .before .before .before .before .before .before .args .text .now) 0 0) (c .before .sign-width .ensures), c .before .before .before .before .before .if1 .left))
+weight-in-requires c κs = (omega (arith, c .if4 .left), omega (arith, narrow (getD (c .before .before .before .before .before .before .before .args .text .now) 0 0) (c .before .sign-width .ensures), c .before .before .before .before .before .if1 .left), c .before .before .before .before .before .before .before .pre)
 
 cast-weight : tie.Need-cast-weight
 cast-weight c = search needs

@@ -1,3 +1,4 @@
 pub mod Weights
 pub mod Light
+pub mod Looks
 pub mod OneOutcome

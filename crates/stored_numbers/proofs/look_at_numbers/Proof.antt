@@ -1,19 +1,19 @@
--- `stored_reading::look_at_numbers` meets its contract.
+-- `stored_numbers::look_at_numbers` meets its contract.
 -- Assumes nothing.
-use mathlib.Core.Path.{_≡_, sym, _∙_}
+use mathlib.Core.Path.{_≡_, refl, sym, _∙_}
 use Prim.Native.Nat.{_+_, _-_}
 use native.Mathlib.Omega.{arith}
 use borrow.Author.Needs.{needs}
 use Rattle.scan.proofs.Front.{tail-part}
-use Rattle.stored_reading.proofs.Looks.{LookingNumbers, numbers-begin, number-faulty, number-room, number-lexeme, numbers-extra, numbers-whole}
-use Rattle.stored_reading.proofs.look_at_numbers.Statement.{statement}
-use Rattle.stored_reading.proofs.look_at_numbers.Tie as tie
+use Rattle.stored_numbers.proofs.Looks.{LookingNumbers, numbers-begin, number-faulty, number-room, number-lexeme, numbers-extra, numbers-whole}
+use Rattle.stored_numbers.proofs.look_at_numbers.Statement.{statement}
+use Rattle.stored_numbers.proofs.look_at_numbers.Tie as tie
 
 abbrev Inv-loop : tie.InvT-loop
-Inv-loop bytes first count good₀ at₀ i₀ good at i = LookingNumbers bytes first count good at i
+Inv-loop bytes first count limits good₀ at₀ i₀ good at i = LookingNumbers bytes first count good at i
 
 abbrev μ-loop : tie.MeasureT-loop
-μ-loop bytes first count good₀ at₀ i₀ good at i = count - i
+μ-loop bytes first count limits good₀ at₀ i₀ good at i = count - i
 
 loop-holds : tie.Need-loop-holds Inv-loop μ-loop
 loop-holds c = numbers-begin _ _ _
@@ -46,7 +46,7 @@ sub-front-is-lexeme-2 : tie.Need-sub-front-is-lexeme-2 Inv-loop μ-loop
 sub-front-is-lexeme-2 c = omega (arith, number-room (c .before .before .before .before .before .before .loop .inv) (c .before .before .before .before .before .loop-test .taken) (sym (c .before .before .before .before .field-at .ensures) ∙ c .before .before .found .given .1))
 
 front-is-lexeme-requires : tie.Need-front-is-lexeme-requires Inv-loop μ-loop
-front-is-lexeme-requires c κs = search needs
+front-is-lexeme-requires c κs = refl
 
 add-i : tie.Need-add-i Inv-loop μ-loop
 add-i c = search needs
@@ -56,8 +56,8 @@ loop-less c = search needs
 
 loop-again : tie.Need-loop-again Inv-loop μ-loop
 loop-again c =
-    let e = sym (c .before .before .before .before .before .field-at .ensures) ∙ c .before .before .before .found .given .1 in
-    number-lexeme (c .before .before .before .before .before .before .before .loop .inv) (c .before .before .before .before .before .before .loop-test .taken) e (c .front-is-lexeme .ensures ∙ rw (tail-part (c .before .before .before .before .before .before .before .loop .at + 3) (c .before .before .before .before .before .before .before .before .before .args .bytes .now)))
+    let e = sym (c .before .before .before .before .before .before .field-at .ensures) ∙ c .before .before .before .before .found .given .1 in
+    number-lexeme (c .before .before .before .before .before .before .before .before .loop .inv) (c .before .before .before .before .before .before .before .loop-test .taken) e (c .front-is-lexeme .ensures ∙ rw (tail-part (c .before .before .before .before .before .before .before .before .loop .at + 3) (c .before .before .before .before .before .before .before .before .before .before .args .bytes .now)))
 
 returns-2 : tie.Need-returns-2 Inv-loop μ-loop
 returns-2 c = numbers-extra (c .before .before .loop .inv) (c .before .loop-test .left) (c .if1 .taken)

@@ -11,16 +11,13 @@ use lib.ListN.{length, getD, take, drop, replicate, length-drop, getD-replicate,
 use lib.Seq.{take-all, take-suc, length-take-le, getD-take, getD-drop, getD-append-add}
 use borrow.Author.Tests.{ltb-true, ltb-false}
 use Rattle.scan.specs.Bytes.{isDigit, isPoint}
-use Rattle.short_numbers.specs.Weights.{weight, weigh}
+use Rattle.stored_numbers.specs.Weights.{weight, weigh, twosThenNone}
 
 -- ---- what a byte weighs at most
-abbrev pub limits : List ℕ
-limits = replicate 16 2 ++ replicate 16 0
-
-limit-in : (k : ℕ) → k < 16 → getD limits k 0 ≡ 2
+limit-in : (k : ℕ) → k < 16 → getD twosThenNone k 0 ≡ 2
 limit-in k h = List·getD-append (replicate 16 2) (replicate 16 0) 0 k h ∙ getD-replicate 16 k 2 0 h
 
-limit-behind : (k : ℕ) → k < 16 → getD limits (16 + k) 0 ≡ 0
+limit-behind : (k : ℕ) → k < 16 → getD twosThenNone (16 + k) 0 ≡ 0
 limit-behind k h = getD-append-add (replicate 16 2) (replicate 16 0) k 0 ∙ getD-replicate 16 k 0 0 h
 
 abbrev pub lesser : ℕ → ℕ → ℕ
@@ -82,27 +79,27 @@ module _ (text : List ℕ) (from len i : ℕ) (l : i < 16) (short : len ≤ 16) 
   w-length : length w ≡ len
   w-length = length-take-le len (drop from text) (omega (arith, length-drop from text))
 
-  inside : i < len → Adds text from len i (lesser (weight (getD text (from + i) 0)) (getD limits (16 - len + i) 0))
+  inside : i < len → Adds text from len i (lesser (weight (getD text (from + i) 0)) (getD twosThenNone (16 - len + i) 0))
   inside h =
       let b = getD text (from + i) 0 in
-      let limit : getD limits (16 - len + i) 0 ≡ 2 = limit-in (16 - len + i) (omega arith) in
+      let limit : getD twosThenNone (16 - len + i) 0 ≡ 2 = limit-in (16 - len + i) (omega arith) in
       let last : getD w i 0 ≡ b = getD-take len (drop from text) i 0 h ∙ getD-drop from text i 0 in
       let more : take (i + 1) w ≡ take i w ++ (b ∷ []) = rw (add-one i, sym last) (take-suc w i 0 (omega (arith, w-length))) in
       rw (limit, own-weight b) (record { few = two-at-most b; is = rw more (weigh-append (take i w) (b ∷ []) ∙ rw (weigh-one b)) })
 
-  behind : len ≤ i → Adds text from len i (lesser (weight (getD text (from + i) 0)) (getD limits (16 - len + i) 0))
+  behind : len ≤ i → Adds text from len i (lesser (weight (getD text (from + i) 0)) (getD twosThenNone (16 - len + i) 0))
   behind h =
       let b = getD text (from + i) 0 in
       let place : 16 - len + i ≡ 16 + (i - len) = omega arith in
-      let limit : getD limits (16 + (i - len)) 0 ≡ 0 = limit-behind (i - len) (omega arith) in
+      let limit : getD twosThenNone (16 + (i - len)) 0 ≡ 0 = limit-behind (i - len) (omega arith) in
       let now : take i w ≡ w = take-all i w (omega (arith, w-length)) in
       let later : take (i + 1) w ≡ w = take-all (i + 1) w (omega (arith, w-length)) in
       rw (place, limit, no-weight b) (record { few = omega arith; is = rw (now, later) (omega arith) })
 
-  pub adds : Adds text from len i (lesser (weight (getD text (from + i) 0)) (getD limits (16 - len + i) 0))
+  pub adds : Adds text from len i (lesser (weight (getD text (from + i) 0)) (getD twosThenNone (16 - len + i) 0))
   adds = go (ltb i len) refl
     where
-      go : (t : Bool) → ltb i len ≡ t → Adds text from len i (lesser (weight (getD text (from + i) 0)) (getD limits (16 - len + i) 0))
+      go : (t : Bool) → ltb i len ≡ t → Adds text from len i (lesser (weight (getD text (from + i) 0)) (getD twosThenNone (16 - len + i) 0))
       go true e = inside (ltb-true i len e)
       go false e = behind (ltb-false i len e)
 

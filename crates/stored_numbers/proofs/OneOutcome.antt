@@ -3,10 +3,9 @@
 use Prim.Native.Nat.{ℕ}
 use mathlib.Core.Path.{_≡_}
 use mathlib.Core.List.{List}
-use lib.ListN.{take}
 use Rattle.lists.specs.One.{One}
 use Rattle.lists.proofs.One.{one}
-use Rattle.number.specs.Lexeme.{isLexeme}
+use Rattle.stored_numbers.specs.Looks.{numbersSeen}
 
-pub front_is_lexeme-one : (text : List ℕ) (len : ℕ) → One (λ r. r ≡ isLexeme (take len text))
-front_is_lexeme-one text len = one
+pub look_at_numbers-one : (bytes : List ℕ) (first count : ℕ) → One (λ r. r ≡ numbersSeen bytes first count)
+look_at_numbers-one bytes first count = one

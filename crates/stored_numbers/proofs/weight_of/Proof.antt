@@ -1,11 +1,11 @@
--- `short_numbers::weight_of` meets its contract.
+-- `stored_numbers::weight_of` meets its contract.
 -- Assumes nothing.
 use mathlib.Core.Path.{sym, _∙_}
 use borrow.Author.Needs.{needs}
 use borrow.Author.Tests.{eq-eqb, ne-eqb}
 use Rattle.scan.specs.Bytes.{point}
-use Rattle.short_numbers.proofs.weight_of.Statement.{statement}
-use Rattle.short_numbers.proofs.weight_of.Tie as tie
+use Rattle.stored_numbers.proofs.weight_of.Statement.{statement}
+use Rattle.stored_numbers.proofs.weight_of.Tie as tie
 
 is-digit-requires : tie.Need-is-digit-requires
 is-digit-requires c κs = search needs

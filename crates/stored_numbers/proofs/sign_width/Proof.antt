@@ -1,9 +1,9 @@
--- `short_numbers::sign_width` meets its contract.
+-- `stored_numbers::sign_width` meets its contract.
 -- Assumes nothing.
 use mathlib.Core.Path.{sym, _∙_}
 use borrow.Author.Needs.{needs}
-use Rattle.short_numbers.proofs.sign_width.Statement.{statement}
-use Rattle.short_numbers.proofs.sign_width.Tie as tie
+use Rattle.stored_numbers.proofs.sign_width.Statement.{statement}
+use Rattle.stored_numbers.proofs.sign_width.Tie as tie
 
 is-sign-requires : tie.Need-is-sign-requires
 is-sign-requires c κs = search needs
