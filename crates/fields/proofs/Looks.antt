@@ -1,7 +1,7 @@
 -- Laws of looking for a field at a place: the tests by which it is found, or is not.
 -- Assumes nothing.
 use mathlib.Core.Path.{_≡_, refl, sym, ap, _∙_}
-use mathlib.Core.Bool.{Bool, true, false, cond, not, _&&_, _||_}
+use mathlib.Core.Bool.{Bool, true, false, cond, not, _&&_, _||_, and-true}
 use mathlib.Core.List.{List}
 use Prim.Native.Nat.{ℕ, _+_, _-_, _%_, _^_, _≤_, _<_}
 use native.Mathlib.Omega.{arith}
@@ -17,10 +17,6 @@ use Rattle.fields.proofs.Counts.{count-read}
 and-false : (b : Bool) → (b && false) ≡ false
 and-false true = refl
 and-false false = refl
-
-and-true : (b : Bool) → (b && true) ≡ b
-and-true true = refl
-and-true false = refl
 
 leb-flip : (a b : ℕ) → leb a b ≡ not (ltb b a)
 leb-flip a b = go (decLt b a)

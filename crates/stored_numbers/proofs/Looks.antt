@@ -1,7 +1,7 @@
 -- Laws of the loop that looks at number fields: what was seen so far and what is still to come are the whole.
 -- Assumes nothing.
 use mathlib.Core.Path.{_≡_, refl, ap, sym, _∙_}
-use mathlib.Core.Bool.{Bool, true, false, cond, _&&_}
+use mathlib.Core.Bool.{Bool, true, false, cond, _&&_, and-true}
 use mathlib.Core.List.{List, []}
 use Prim.Native.Nat.{ℕ, _+_, _-_, _≤_, _<_}
 use native.Mathlib.Omega.{arith}
@@ -23,10 +23,6 @@ use Rattle.stored_form.specs.declared.Seen.the-variants.{Faulty, Whole}
 use Rattle.stored_form.specs.Reading.{Run, faulty, whole, before, spanTold, numbersFrom}
 use Rattle.stored_form.proofs.Runs.{turn-on, turn-off, turn-none}
 use Rattle.stored_numbers.specs.Looks.{numbersWell, numbersSeen}
-
-and-true : (b : Bool) → (b && true) ≡ b
-and-true true = refl
-and-true false = refl
 
 -- what those still to come make of it, where all so far were lexemes or not
 abbrev pub numbersOn : List ℕ → Bool → Run Span → Seen

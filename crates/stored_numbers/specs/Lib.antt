@@ -1,2 +1,3 @@
 pub mod Weights
 pub mod Looks
+pub mod Examples
