@@ -7,3 +7,4 @@ pub mod Demand3
 pub mod LaterBytes
 pub mod Rooms
 pub mod Stored
+pub mod StoredExamples
