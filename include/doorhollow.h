@@ -104,6 +104,8 @@ extern "C" {
 #define DOORHOLLOW_FAULTY_FIELD 25 /* A field is cut, missing, extra or of wrong tag or length */
 #define DOORHOLLOW_UNKNOWN_VERSION 26 /* The stored bytes are of another version */
 #define DOORHOLLOW_DOES_NOT_FIT 27 /* A count, a number's text or the whole is too large for the stored form */
+#define DOORHOLLOW_NOTHING_AFTER_PLUS 28 /* Unable to parse input number as the desired output type */
+#define DOORHOLLOW_NUMBER_GOES_WRONG 29 /* Unable to parse input number as the desired output type */
 /* tools/refusals: up to here */
 
 /*

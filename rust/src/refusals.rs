@@ -81,6 +81,12 @@ pub const UNKNOWN_VERSION: u32 = 26;
 /// `A count, a number's text or the whole is too large for the stored form`
 pub const DOES_NOT_FIT: u32 = 27;
 
+/// `Unable to parse input number as the desired output type`
+pub const NOTHING_AFTER_PLUS: u32 = 28;
+
+/// `Unable to parse input number as the desired output type`
+pub const NUMBER_GOES_WRONG: u32 = 29;
+
 pub(crate) fn message(number: u32) -> &'static str {
     match number {
         TEXT_TOO_LONG => "More bytes than a text (65,535) or a stored tree (1,048,576) may have",
@@ -110,6 +116,8 @@ pub(crate) fn message(number: u32) -> &'static str {
         FAULTY_FIELD => "A field is cut, missing, extra or of wrong tag or length",
         UNKNOWN_VERSION => "The stored bytes are of another version",
         DOES_NOT_FIT => "A count, a number's text or the whole is too large for the stored form",
+        NOTHING_AFTER_PLUS => "Unable to parse input number as the desired output type",
+        NUMBER_GOES_WRONG => "Unable to parse input number as the desired output type",
         _ => "Unknown refusal",
     }
 }

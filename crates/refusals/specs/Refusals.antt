@@ -108,3 +108,11 @@ unknownVersion = 26
 -- "a count, a text or the whole doesn't fit the form"
 abbrev pub doesNotFit : ℕ
 doesNotFit = 27
+
+-- "nothing left after the dropped plus (place: that plus)"
+abbrev pub nothingAfterPlus : ℕ
+nothingAfterPlus = 28
+
+-- "a number that goes wrong"
+abbrev pub numberGoesWrong : ℕ
+numberGoesWrong = 29

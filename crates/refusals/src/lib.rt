@@ -53,3 +53,7 @@ pub const FAULTY_FIELD: u32 = 25;
 pub const UNKNOWN_VERSION: u32 = 26;
 
 pub const DOES_NOT_FIT: u32 = 27;
+
+pub const NOTHING_AFTER_PLUS: u32 = 28;
+
+pub const NUMBER_GOES_WRONG: u32 = 29;

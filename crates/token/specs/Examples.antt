@@ -3,18 +3,21 @@ use mathlib.Core.Path.{_≡_, refl}
 use mathlib.Core.List.{List, [], _∷_, _++_}
 use mathlib.Core.Bool.{Bool, false}
 use Prim.Native.Nat.{ℕ}
+use Prim.Native.String.{String}
 use lib.Dec.{eqb, ltb}
 use lib.ListN.{length}
 use Rattle.lists.specs.Lists.{passing, bytesThat}
 use Rattle.scan.specs.Text.{bytes}
 use Rattle.scan.specs.Front.{begins, afterOne, afterAll, isNil}
 use Rattle.scan.specs.Runs.{run, firstNot, afterOneAt}
-use Rattle.words.specs.Words.{sameWord}
+use Rattle.words.specs.Words.{sameWord, startsWord}
 use Rattle.number.specs.Lexeme.{isNamed, isDigits, isExponent, isDecimal, isUnsigned, isLexeme}
+use Rattle.bad_numbers.specs.Openings.{opensDecimal, opensWord, opens, longestUpTo}
 use Rattle.token.specs.declared.Token.{Token}
 use Rattle.token.specs.declared.Token.the-variants.{Comma, Number, ParenClose, ParenOpen, Word}
 use Rattle.token.specs.declared.Found.{Found}
-use Rattle.token.specs.Tokens.{numberAt, wordAt, startAt, tokenAt, readAt, read, badAt}
+use Rattle.token.specs.declared.Refusal.{Refusal}
+use Rattle.token.specs.Tokens.{numberAt, wordAt, startAt, tokenAt, readAt, read, badNumberAt, nothingLeft, goneWrong, wrongNumberAt, badAt}
 
 -- `POINT(++4 -4e x`, NUL, `)`
 text : List ℕ
@@ -23,6 +26,10 @@ text = bytes "POINT(++4 -4e x" ++ 0 ∷ bytes ")"
 all : ℕ
 unfolding text run firstNot afterOneAt numberAt wordAt startAt tokenAt readAt isNamed isDigits isExponent isDecimal isUnsigned isLexeme begins afterOne afterAll isNil sameWord
 all = 0
+
+allBad : ℕ
+unfolding run firstNot afterOneAt begins afterOne afterAll isNil startsWord isDigits isExponent isDecimal opensDecimal opensWord opens longestUpTo wrongNumberAt badAt
+allBad = 0
 
 -- a word ends before its `(`, which is not taken
 word : readAt text 0 ≡ read (Found.Is 0 (Token.Word 0 5)) 5
@@ -104,6 +111,35 @@ placed : (readAt (bytes " \t(x") 0 ≡ read (Found.Is 2 ParenOpen) 3) × (readAt
 unfolding all
 placed = (refl, refl, refl, refl, refl, refl, refl, refl)
 
--- "A bad number that is taken gives 6", where it starts
-refusal : badAt (bytes "(+x)") 1 ≡ record { number = 6; place = 1 }
-refusal = refl
+-- ---- what a bad number is refused with: the whole of a text that it stands in at p
+badIn : String → ℕ → Refusal
+badIn text p = badAt (bytes text) p
+
+-- "nothing left after the dropped plus (place: that plus)": before each stop, at the end, after a blank and after a mark
+nothing : (badIn "+" 0 ≡ nothingLeft 0) × (badIn "+ 5" 0 ≡ nothingLeft 0) × (badIn "(+)" 1 ≡ nothingLeft 1) × (badIn " \t+\n" 2 ≡ nothingLeft 2) × (badIn "+\r" 0 ≡ nothingLeft 0) × (badIn "1,+,2" 2 ≡ nothingLeft 2) × (badIn "+(" 0 ≡ nothingLeft 0) × (badIn "+\0x" 0 ≡ nothingLeft 0)
+unfolding allBad badIn
+nothing = (refl, refl, refl, refl, refl, refl, refl, refl)
+
+-- "one plus is dropped, so `+` is 28 at 0, `++` is 29 at 2, `+q` 29 at 1, `+infi` 29 at its end"
+dropped-plus : (badIn "++" 0 ≡ goneWrong 2) × (badIn "+q" 0 ≡ goneWrong 1) × (badIn "+infi" 0 ≡ goneWrong 5) × (badIn "+++4" 0 ≡ goneWrong 2) × (badIn "+-" 0 ≡ goneWrong 2) × (badIn "+-q" 0 ≡ goneWrong 2) × (badIn "+1x" 0 ≡ goneWrong 2) × (badIn "+." 0 ≡ goneWrong 2) × (badIn "+1e" 0 ≡ goneWrong 3)
+unfolding allBad badIn
+dropped-plus = (refl, refl, refl, refl, refl, refl, refl, refl, refl)
+
+-- "the first byte at which no lexeme can go on, or the token's end where more was needed"
+gone : (badIn "4x" 0 ≡ goneWrong 1) × (badIn "1e" 0 ≡ goneWrong 2) × (badIn "1e+" 0 ≡ goneWrong 3) × (badIn "." 0 ≡ goneWrong 1) × (badIn ".e5" 0 ≡ goneWrong 1) × (badIn "--1" 0 ≡ goneWrong 1) × (badIn "-infx" 0 ≡ goneWrong 4) × (badIn "-infix" 0 ≡ goneWrong 5) × (badIn "-nay" 0 ≡ goneWrong 3) × (badIn "1.2.3" 0 ≡ goneWrong 3) × (badIn "-" 0 ≡ goneWrong 1)
+unfolding allBad badIn
+gone = (refl, refl, refl, refl, refl, refl, refl, refl, refl, refl, refl)
+
+-- the token ends before a stop, and its end is the place, where more was needed
+ended : (badIn "(1e 5)" 1 ≡ goneWrong 3) × (badIn "(1e)" 1 ≡ goneWrong 3) × (badIn "(-,1)" 1 ≡ goneWrong 2) × (badIn "(+infi(" 1 ≡ goneWrong 6) × (badIn "(1 .\0" 3 ≡ goneWrong 4) × (badIn "( 4x5 6" 2 ≡ goneWrong 3)
+unfolding allBad badIn
+ended = (refl, refl, refl, refl, refl, refl)
+
+-- a wide character (京) within, and past the end nothing is left
+wide : (badAt (bytes "(1" ++ 0xE4 ∷ 0xBA ∷ 0xAC ∷ bytes " 2)") 1 ≡ goneWrong 2) × (badAt (bytes "+" ++ 0xE4 ∷ 0xBA ∷ 0xAC ∷ []) 0 ≡ goneWrong 1) × (badIn "ab" 2 ≡ nothingLeft 2) × (badIn "ab" 7 ≡ nothingLeft 7)
+unfolding allBad badIn
+wide = (refl, refl, refl, refl)
+
+-- the numbers 28 and 29, each with its place; and 6, which was given at the token's start
+numbers : (nothingLeft 3 ≡ record { number = 28; place = 3 }) × (goneWrong 3 ≡ record { number = 29; place = 3 }) × (badNumberAt 3 ≡ record { number = 6; place = 3 })
+numbers = (refl, refl, refl)

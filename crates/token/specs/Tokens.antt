@@ -5,9 +5,10 @@ use mathlib.Core.List.{List}
 use lib.ListN.{length, getD}
 use lib.Dec.{eqb, leb}
 use Rattle.scan.specs.Bytes.{nul, parenOpen, parenClose, comma, isBlank, isInner, isNumberlike, isPlus}
-use Rattle.scan.specs.Front.{part}
+use Rattle.scan.specs.Front.{part, afterOne, isNil}
 use Rattle.scan.specs.Runs.{firstNot, afterOneAt}
-use Rattle.refusals.specs.Refusals.{badNumber}
+use Rattle.refusals.specs.Refusals.{badNumber, nothingAfterPlus, numberGoesWrong}
+use Rattle.bad_numbers.specs.Openings.{goesWrong}
 use Rattle.number.specs.declared.Lexeme.{Lexeme}
 use Rattle.number.specs.Lexeme.{isLexeme, upToStop}
 use Rattle.token.specs.declared.Token.the-variants.{Comma, Number, ParenClose, ParenOpen, Word}
@@ -22,14 +23,27 @@ read f i = record { found = f; at = i }
 abbrev pub endOf : List ℕ → ℕ → ℕ
 endOf text p = firstNot isInner text p
 
--- "A bad number that is taken gives 6", and the place is "the start of the token at fault (a `+` counts as its start)":
--- the refusal of a bad number that starts at p, with its bytes
-abbrev pub badNumberAt : ℕ → List ℕ → Refusal
-badNumberAt p run = record { number = badNumber; place = p }
+-- Document 01 as it was before request 2026-02: "A bad number that is taken gives 6", and the place is "the start of the token at fault (a `+` counts as its
+-- start)". It is given no more, and stands here for what is said of the change (grammar/specs/Former).
+abbrev pub badNumberAt : ℕ → Refusal
+badNumberAt p = record { number = badNumber; place = p }
+
+abbrev pub nothingLeft : ℕ → Refusal
+nothingLeft p = record { number = nothingAfterPlus; place = p }
+
+abbrev pub goneWrong : ℕ → Refusal
+goneWrong p = record { number = numberGoesWrong; place = p }
+
+-- "Refusal 6 becomes two: nothing left after the dropped plus (place: that plus), and a number that goes wrong. For the second the place is the first byte at
+-- which no lexeme can go on, or the token's end where more was needed." (document 02): of the number that starts at p with the bytes run
+unfoldable pub wrongNumberAt : ℕ → List ℕ → Refusal
+wrongNumberAt p run =
+    cond (isNil (afterOne isPlus run)) (nothingLeft p)
+    (goneWrong (afterOneAt isPlus run 0 + p + goesWrong (afterOne isPlus run)))
 
 -- of the one that stands at p in a text
-abbrev pub badAt : List ℕ → ℕ → Refusal
-badAt text p = badNumberAt p (part text p (endOf text p))
+unfoldable pub badAt : List ℕ → ℕ → Refusal
+badAt text p = wrongNumberAt p (part text p (endOf text p))
 
 -- "Both run to a blank (taken too) or to NUL, `(`, `)` or `,` (not taken)."
 abbrev pub afterBlank : List ℕ → ℕ → ℕ

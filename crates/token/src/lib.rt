@@ -1,6 +1,8 @@
 // The token that stands at a place of a text: what `tokenizer.rs` of the Rust reads with one call of `next`.
+use bad_numbers::wrong_at;
 use number::read_lexeme;
-use refusals::BAD_NUMBER;
+use refusals::NOTHING_AFTER_PLUS;
+use refusals::NUMBER_GOES_WRONG;
 use scan::after_blank;
 use scan::after_plus;
 use scan::is_numberlike;
@@ -43,13 +45,21 @@ pub struct Refusal {
     pub place: usize,
 }
 
-// The refusal of the bad number that starts at `place`.
+// The refusal of the bad number that starts at `place`: nothing is left after its plus, or it goes wrong.
 pub fn bad_number_at(text: &[u8], place: usize) -> Refusal
     ensures { λ r. ⌜ r ≡ badAt (now (text .entry)) place ⌝ }
 {
+    let start = after_plus(text, place);
+    let end = token_end(text, start);
+    if end <= start {
+        return Refusal {
+            number: NOTHING_AFTER_PLUS,
+            place,
+        };
+    }
     Refusal {
-        number: BAD_NUMBER,
-        place,
+        number: NUMBER_GOES_WRONG,
+        place: start + wrong_at(&text[start..end]),
     }
 }
 
