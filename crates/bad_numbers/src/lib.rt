@@ -12,7 +12,7 @@ ghost use Rattle.scan.specs.Front.{rest};
 ghost use Rattle.bad_numbers.specs.Openings.{opensDecimal, opensWord, longest, goesWrong};
 
 // Whether one of the words begins with `w`.
-fn opens_word(w: &[u8]) -> bool
+pub fn opens_word(w: &[u8]) -> bool
     ensures { λ r. ⌜ r ≡ opensWord (now (w .entry)) ⌝ }
 {
     starts_with_word(b"inf", w) | starts_with_word(b"infinity", w) | starts_with_word(b"nan", w)

@@ -1,0 +1,87 @@
+-- What a bad number is refused with: the code's two answers are the definition's; its number is one of two, and its place lies in the text.
+-- Assumes nothing.
+use mathlib.Core.Path.{_≡_, refl, sym, ap, ap₂, _∙_}
+use mathlib.Core.Bool.{Bool, true, false, cond, _||_}
+use mathlib.Core.List.{List, [], _∷_}
+use Prim.Native.Nat.{ℕ, _+_, _-_, _≤_, _<_}
+use native.Mathlib.Decide.{decLt}
+use native.Mathlib.Omega.{arith}
+use lib.Dec.{eqb}
+use lib.ListN.{length, getD, take, drop, length-drop}
+use lib.Seq.{length-take-le}
+use Rattle.lists.proofs.Cases.{either}
+use Rattle.scan.specs.Bytes.{isInner, isPlus}
+use Rattle.scan.specs.Front.{part, afterOne, isNil}
+use Rattle.scan.specs.Runs.{firstNot, afterOneAt}
+use Rattle.scan.proofs.Bytes.{plus-inner}
+use Rattle.scan.proofs.Front.{part-first, part-none}
+use Rattle.scan.proofs.Runs.{past, not-past, scan-one, part-one, one-end, one-not-before}
+use Rattle.refusals.specs.Refusals.{nothingAfterPlus, numberGoesWrong}
+use Rattle.bad_numbers.specs.Openings.{goesWrong}
+use Rattle.bad_numbers.proofs.Openings.{wrong-within}
+use Rattle.token.specs.declared.Refusal.{Refusal}
+use Rattle.token.specs.Tokens.{endOf, textStart, nothingLeft, goneWrong, wrongNumberAt, badAt}
+
+module _ (text : List ℕ) (p : ℕ) where
+  same-end : endOf text (textStart text p) ≡ endOf text p
+  same-end = scan-one isPlus isInner plus-inner text p refl
+
+  -- what is left of a number after its plus
+  left-is : afterOne isPlus (part text p (endOf text p)) ≡ part text (textStart text p) (endOf text (textStart text p))
+  left-is = part-one isPlus isInner plus-inner text p refl ∙ ap (part text (textStart text p)) (sym same-end)
+
+  module _ (start end : ℕ) (s : start ≡ textStart text p) (e : end ≡ endOf text start) where
+    left : afterOne isPlus (part text p (endOf text p)) ≡ part text start end
+    left = left-is ∙ ap₂ (part text) (sym s) (ap (endOf text) (sym s) ∙ sym e)
+
+    pub nothing-is : end ≤ start → nothingLeft p ≡ badAt text p
+    unfolding badAt wrongNumberAt isNil
+    nothing-is h = rw (left, part-none text start end h)
+
+    module _ (h : start < end) where
+      inside : p < length text
+      inside = go (decLt p (length text))
+        where
+          go : Dec (p < length text) → p < length text
+          go (yes l) = l
+          go (no l) = absurd (omega (arith, one-end isPlus text p refl (omega arith), past isInner text p (omega arith), same-end, ap (endOf text) s))
+
+      begun : p < endOf text p
+      begun = omega (arith, one-not-before isPlus text p refl, same-end, ap (endOf text) s)
+
+      -- the plus is one byte, in the text as in the number's own bytes
+      starts : afterOneAt isPlus (part text p (endOf text p)) 0 + p ≡ start
+      unfolding afterOneAt
+      starts = rw (part-first text p (endOf text p) inside begun, s) (go (isPlus (getD text p 0)))
+        where
+          go : (b : Bool) → cond b (0 + 1) 0 + p ≡ cond b (p + 1) p
+          go true = omega arith
+          go false = omega arith
+
+      some-left : isNil (part text start end) ≡ false
+      unfolding isNil
+      some-left = rw (part-first text start end (omega (arith, not-past isInner text start)) h)
+
+      pub gone-is : (wrong : ℕ) → wrong ≡ goesWrong (part text start end) → goneWrong (start + wrong) ≡ badAt text p
+      unfolding badAt wrongNumberAt
+      gone-is wrong w = rw (left, some-left, starts, w)
+
+      -- and it stands in the number, or at its end
+      pub gone-within : (wrong : ℕ) → wrong ≡ goesWrong (part text start end) → start + wrong ≤ end
+      gone-within wrong w =
+          let l : length (part text start end) ≡ end - start = length-take-le (end - start) (drop start text) (omega (arith, length-drop start text, not-past isInner text start)) in
+          omega (arith, w, wrong-within (part text start end))
+
+-- one of the two numbers that stand in the place of 6
+abbrev pub isBadNumber : ℕ → Bool
+isBadNumber e = eqb e nothingAfterPlus || eqb e numberGoesWrong
+
+abbrev BadIn : List ℕ → Refusal → Type 0
+BadIn text r = (isBadNumber (r .number) ≡ true) × (r .place ≤ length text)
+
+pub bad-in : (text : List ℕ) (p : ℕ) → p ≤ length text → BadIn text (badAt text p)
+bad-in text p h = go (decLt (textStart text p) (endOf text (textStart text p)))
+  where
+    go : Dec (textStart text p < endOf text (textStart text p)) → BadIn text (badAt text p)
+    go (yes l) = rw (← gone-is text p _ _ refl refl l _ refl) (refl, omega (arith, gone-within text p _ _ refl refl l _ refl, not-past isInner text (textStart text p)))
+    go (no l) = rw (← nothing-is text p _ _ refl refl (omega arith)) (refl, h)
