@@ -15,7 +15,8 @@ pub struct Count {
     pub at_model_place: usize,
     pub at_model_limit: usize,
     pub of_stores: usize,
-    /// Of stores: how many records had this number and, where there is one, this letter.
+    /// How many records had this number or, where there is one, this letter; of tokens, which
+    /// have neither, nothing.
     pub outcomes: BTreeMap<String, usize>,
 }
 
@@ -31,11 +32,15 @@ impl Count {
             Basis::Limit => &mut self.at_model_limit,
             Basis::Stores => &mut self.of_stores,
         } += 1;
-        if expected.basis == Basis::Stores {
+        if !is_of_tokens(letter) {
             let outcome = outcome(&expected.line, letter);
             *self.outcomes.entry(outcome).or_default() += 1;
         }
     }
+}
+
+fn is_of_tokens(letter: u8) -> bool {
+    matches!(letter, b't' | b'p')
 }
 
 /// A refusal's number; else `accepted` or, of the strict check, the letter of a rule.

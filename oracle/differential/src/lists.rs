@@ -147,6 +147,8 @@ const INFERENCES: usize = 500;
 const WRITINGS: usize = 400;
 const CHECKS: usize = 400;
 
+/// Generated texts under these letters are short.
+const MOST_TEXT_BYTES: usize = 64;
 /// Generated stores are smaller.
 const MOST_PLACES: usize = 48;
 /// And so are stored bytes.
@@ -337,14 +339,13 @@ type Class = (u32, u32);
 /// Generated texts under one letter, spread evenly over the classes of answers and, in
 /// each class, over the texts that were drawn.
 pub fn spread(seed: u64, letter: Letter, count: usize) -> Vec<Case> {
-    const LONGEST: usize = 64;
     const DRAWN: usize = 1_000_000;
     let mut texts = Texts::new(seed);
     let mut random = Random::new(!seed);
     let mut by_class: BTreeMap<Class, Vec<Case>> = BTreeMap::new();
     for _ in 0..DRAWN {
         let text = texts.next_short();
-        if text.len() <= LONGEST {
+        if text.len() <= MOST_TEXT_BYTES {
             let case = letter.case(&mut random, text);
             if is_small(&case) {
                 by_class.entry(class(&case)).or_default().push(case);
@@ -367,6 +368,7 @@ fn is_small(case: &Case) -> bool {
             places(rows) <= MOST_PLACES && case.text.len() <= MOST_BYTES
         }
         Request::ReadStored { .. } => case.text.len() <= MOST_BYTES,
+        Request::Read { .. } => case.text.len() <= MOST_TEXT_BYTES,
         _ => true,
     }
 }
