@@ -99,7 +99,7 @@ pub fn encode(cases: &[Case]) -> Vec<u8> {
 }
 
 /// One reading in so many is that of a geometry with a bad number put in.
-const BAD_NUMBER_EVERY: usize = 4;
+const BAD_NUMBER_EVERY: usize = 6;
 
 fn reading(random: &mut Random, text: Vec<u8>) -> Case {
     let text = match random.once_in(BAD_NUMBER_EVERY) {
@@ -233,7 +233,7 @@ mod tests {
         let mut texts = Texts::new(1);
         let mut random = Random::new(!1);
         let mut counts: BTreeMap<(u32, Step), usize> = BTreeMap::new();
-        for _ in 0..100_000 {
+        for _ in 0..200_000 {
             let case = Letter::Read.case(&mut random, texts.next_short());
             if let Some(met) = bad_number(&case) {
                 *counts.entry(met).or_default() += 1;
@@ -243,7 +243,7 @@ mod tests {
         for step in STEPS {
             for number in [NOTHING_AFTER_PLUS, GOES_WRONG] {
                 let count = counts[&(number, step)];
-                assert!(count >= 20, "{number} at {step:?}: {count}");
+                assert!(count >= 15, "{number} at {step:?}: {count}");
             }
         }
     }

@@ -105,3 +105,28 @@ fn compare(
     }
     None
 }
+
+#[cfg(test)]
+mod tests {
+    use super::*;
+
+    #[test]
+    fn each_refusal_is_counted() {
+        let mut count = Count::default();
+        for (line, basis, letter) in [
+            ("28 6 0 0 ;  ;  ; 0", Basis::Place, b'r'),
+            ("29 7 0 0 ;  ;  ; 0", Basis::Place, b'r'),
+            ("29 9 0 0 ;  ;  ; 0", Basis::Place, b'r'),
+            ("0 0 1 0 ; 1 0 0 ;  ; 0", Basis::Rust, b'r'),
+            ("bad@0", Basis::Rust, b't'),
+            ("0 66 1", Basis::Stores, b's'),
+        ] {
+            let line = line.to_string();
+            count.add(&Expected { line, basis }, letter);
+        }
+        let outcomes = [("28", 1), ("29", 2), ("B", 1), ("accepted", 1)];
+        let outcomes = outcomes.map(|(outcome, records)| (outcome.to_string(), records));
+        assert_eq!(count.outcomes, BTreeMap::from(outcomes));
+        assert_eq!(count.agreed(), 6);
+    }
+}
