@@ -85,3 +85,23 @@ bad-in text p h = go (decLt (textStart text p) (endOf text (textStart text p)))
     go : Dec (textStart text p < endOf text (textStart text p)) → BadIn text (badAt text p)
     go (yes l) = rw (← gone-is text p _ _ refl refl l _ refl) (refl, gone-within text p _ _ refl refl l _ refl)
     go (no l) = rw (← nothing-is text p _ _ refl refl (omega arith)) (refl, h)
+
+-- The laws below are what the crates above know of `badAt` and `wrongNumberAt`. (Added on part-grammar: `bad-is` stands as it is; `wrong-in` is proved here of
+-- the stub, and is to be proved again of the definition that takes its place.)
+-- a bad number's refusal, by its own bytes
+pub bad-is : (text : List ℕ) (p : ℕ) → badAt text p ≡ wrongNumberAt p (part text p (endOf text p))
+unfolding badAt
+bad-is text p = refl
+
+-- it is one of the two, at the number's first byte or a later one, or at its end
+abbrev WrongIn : ℕ → List ℕ → Refusal → Type 0
+WrongIn p run r = (isBadNumber (r .number) ≡ true) × (r .place ≤ p + length run)
+
+pub wrong-in : (p : ℕ) (run : List ℕ) → WrongIn p run (wrongNumberAt p run)
+unfolding wrongNumberAt afterOne isNil afterOneAt
+wrong-in p [] = (refl, omega arith)
+wrong-in p (b ∷ l) = go (isPlus b)
+  where
+    go : (x : Bool) → WrongIn p (b ∷ l) (cond (isNil (cond x l (b ∷ l))) (nothingLeft p) (goneWrong (cond x (0 + 1) 0 + p)))
+    go true = either (isNil l) (WrongIn p (b ∷ l)) _ _ (λ e. (refl, omega arith)) λ e. (refl, omega arith)
+    go false = (refl, omega arith)
