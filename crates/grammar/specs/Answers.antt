@@ -6,10 +6,11 @@ use mathlib.Core.List.{List}
 use lib.Dec.{eqb, leb}
 use lib.ListN.{length}
 use Rattle.limits.specs.Limits.{overLimit}
-use Rattle.refusals.specs.Refusals.{textTooLong, illFormedUtf8, noNodeRow, tooDeep, nonAsciiRoot, noChild, nothingAfterPlus, numberGoesWrong}
+use Rattle.refusals.specs.Refusals.{textTooLong, illFormedUtf8, noNodeRow, tooDeep, nonAsciiRoot, noChild}
 use Rattle.utf8.specs.Utf8.{isUtf8}
 use Rattle.store.specs.Rows.{Row, Span}
 use Rattle.token.specs.declared.Refusal.{Refusal}
+use Rattle.token.specs.Tokens.{isBadNumber}
 use Rattle.lists.specs.Lists.{All}
 use Rattle.tree.specs.TreeIn.{SpanIn}
 
@@ -17,10 +18,6 @@ use Rattle.tree.specs.TreeIn.{SpanIn}
 pub record Passes (text : List ℕ) : Type 0 where
   pub short : overLimit (length text) ≡ false
   pub utf8 : isUtf8 text ≡ true
-
--- "Refusals: 28 and 29 in the place of 6." (document 02)
-abbrev pub isBadNumber : ℕ → Bool
-isBadNumber e = eqb e nothingAfterPlus || eqb e numberGoesWrong
 
 -- "Refusal numbers": a text that is not looked at (1, 2), and what is met in it (7 to 18, and a bad number)
 abbrev pub isRefusal : ℕ → Bool

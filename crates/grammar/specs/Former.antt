@@ -7,10 +7,9 @@ use Prim.Native.Nat.{ℕ}
 use lib.Dec.{eqb}
 use Rattle.refusals.specs.Refusals.{badNumber}
 use Rattle.token.specs.declared.Refusal.{Refusal}
-use Rattle.token.specs.Tokens.{badNumberAt, badAt}
+use Rattle.token.specs.Tokens.{isBadNumber, badNumberAt, badAt}
 use Rattle.token_stream.specs.Lex.{lex}
 use Rattle.token_stream.specs.Stream.{Tk, open-tk, close-tk, comma-tk, none-tk, bad-tk, word-tk, number-tk, Tok, tok, Str, end, then}
-use Rattle.grammar.specs.Answers.{isBadNumber}
 use Rattle.grammar.specs.Grammar.{Got, ok, refused, halt}
 use Rattle.grammar.specs.Reading.{readingOver}
 

@@ -25,7 +25,7 @@ use Rattle.token.specs.declared.Refusal.{Refusal}
 use Rattle.token.specs.declared.Found.{Found}
 use Rattle.token.specs.declared.Token.{Token}
 use Rattle.token.specs.declared.Token.the-variants.{Comma, Number, ParenClose, ParenOpen, Word}
-use Rattle.token.specs.Tokens.{badNumberAt, badAt, endOf, readAt}
+use Rattle.token.specs.Tokens.{isBadNumber, badNumberAt, badAt, endOf, readAt}
 use Rattle.token.proofs.BadNumbers.{bad-is, wrong-in}
 use Rattle.scan.specs.Front.{part}
 use Rattle.token_stream.specs.Lex.{lex}
@@ -36,7 +36,7 @@ use Rattle.grammar.specs.Asks.{P, ret, ask, look, bind, Ran, ran, run, answerIn
 use Rattle.grammar.specs.Tokens.{sortOpen, sortClose, sortComma, sortNumber, sortWord, sortOf, placeOf, startOf, textOf, refusalAt}
 use Rattle.grammar.specs.Grammar.{Out, out, Got, ok, refused, halt, Head, opens, empty, wrong, refusal, refuse, andThen, fill, rowsUsed, items, closeBy, closing, addNode, addNumber, takeNumber, number, thenNumber, ifAsked, coord, pointBody, opened, isEmptyTok, opening, opener, headerEnding, header, byName, childHead, rootHead, lineBody, parens, lineIn, lineOf, linesBody, polygonIn, polygonOf, polygonsBody, pointIn, barePoint, pointOf, pointsBody, multi, simple, geometryBy, childOf, collection, geometry, root}
 use Rattle.grammar.specs.Reading.{enough, readingOver, reading}
-use Rattle.grammar.specs.Answers.{isBadNumber, isHalt}
+use Rattle.grammar.specs.Answers.{isHalt}
 use Rattle.grammar.specs.Former.{tokWith, strWith, former, formerReading, renewal, gotWith, renewed, numberIn, saysBad, Change, renews, stays}
 use Rattle.grammar_laws.proofs.Asks.{after, run-bind}
 use Rattle.grammar_laws.proofs.Fuel.{reading-halts}

@@ -11,13 +11,13 @@ use lib.Seq.{drop-drop, take-append-seam}
 use Rattle.scan.specs.Bytes.{nul, parenOpen, parenClose, plus, isBlank, isStop, isNumberlike}
 use Rattle.number.specs.Lexeme.{isLexeme}
 use Rattle.refusals.specs.Refusals.{textTooLong, illFormedUtf8, nonAsciiRoot, noChild}
-use Rattle.token.specs.Tokens.{wrongNumberAt}
+use Rattle.token.specs.Tokens.{isBadNumber, wrongNumberAt}
 use Rattle.token.proofs.BadNumbers.{wrong-in}
 use Rattle.token_stream.specs.Stream.{Tk, open-tk, close-tk, comma-tk, none-tk, bad-tk, word-tk, number-tk, Tok, tok, Str, end, then, hd, tl}
 use Rattle.token_stream.specs.Lex.{markTk, numberTk, runTk, Lexed, lexed, flush, push, lexByte, lexRun, lex}
 use Rattle.lists.proofs.Cases.{either}
 use Rattle.grammar.specs.Tokens.{sortNone, sortNumber, sortOf, placeOf, startOf, textOf, refusalAt}
-use Rattle.grammar.specs.Answers.{isBadNumber, isRefusal, Refused}
+use Rattle.grammar.specs.Answers.{isRefusal, Refused}
 use Rattle.tree.specs.TreeIn.{NumberIn}
 use Rattle.grammar_laws.proofs.Lexemes.{or-right}
 
