@@ -19,7 +19,8 @@ use Rattle.token.specs.declared.Found.{Found}
 use Rattle.token.specs.declared.Read.{Read}
 use Rattle.token.specs.declared.Token.{Token}
 use Rattle.token.specs.declared.Token.the-variants.{Comma, Number, ParenClose, ParenOpen, Word}
-use Rattle.token.specs.Tokens.{endOf, textStart, numberOr, numberAt, wordAt, startAt, tokenAt, readAt}
+use Rattle.token.specs.Tokens.{endOf, textStart, numberOr, numberAt, wordAt, startAt, tokenAt, readAt, numberText}
+use Rattle.token.proofs.BadNumbers.{told}
 use Rattle.token_stream.specs.Lex.{lex}
 use Rattle.token_stream.specs.Stream.{Tok, Str, hd, size, tokIn, toks}
 use Rattle.lists.proofs.Cases.{either}
@@ -31,7 +32,7 @@ use Rattle.grammar.specs.Reading.{enough}
 use Rattle.grammar_laws.proofs.Fuel.{lex-size}
 use Rattle.grammar_laws.proofs.Former.{bad-numbered}
 use Rattle.demands.specs.Steps.{Came, read-whole}
-use Rattle.demands.specs.Faults.{later, numberText, Starts, TokensStart}
+use Rattle.demands.specs.Faults.{later, Starts, TokensStart}
 use Rattle.demands.proofs.Steps.{Own, GotIn, root-in}
 
 -- ---- what holds of each token of a text
@@ -68,13 +69,13 @@ module _ (text : List ℕ) where
   abbrev Right : Read → Type 0
   Right r = Starts text (tokIn text (r .found))
 
-  number-starts : (p : ℕ) → isNumberlike (getD text p 0) ≡ true → Right (numberAt text p)
+  number-starts : (p : ℕ) → p < length text → isInner (getD text p 0) ≡ true → isNumberlike (getD text p 0) ≡ true → Right (numberAt text p)
   unfolding numberAt
-  number-starts p n = go (isLexeme (numberText text p)) refl
+  number-starts p l i n = go (isLexeme (numberText text p)) refl
     where
       go : (b : Bool) → isLexeme (numberText text p) ≡ b → Starts text (tokIn text (numberOr b p (textStart text p) (endOf text (textStart text p))))
       go true e = (n, refl, refl, sound (numberText text p) e)
-      go false e = (n, (λ f. false≢true (sym e ∙ passes f)), refl)
+      go false e = (n, (λ f. false≢true (sym e ∙ passes f)), refl, told text p i l)
 
   byte-starts : (p b : ℕ) → p < length text → getD text p 0 ≡ b → isBlank b ≡ false → Right (startAt text p b)
   unfolding startAt wordAt
@@ -83,7 +84,7 @@ module _ (text : List ℕ) where
       either (eqb b parenOpen) Right _ _ (λ z. (l, e ∙ eqb-true b parenOpen z)) λ z1.
       either (eqb b parenClose) Right _ _ (λ z. (l, e ∙ eqb-true b parenClose z)) λ z2.
       either (eqb b comma) Right _ _ (λ z. (l, e ∙ eqb-true b comma z)) λ z3.
-      either (isNumberlike b) Right _ _ (λ z. number-starts p (rw e z)) λ z.
+      either (isNumberlike b) Right _ _ (λ z. (let i : isInner b ≡ true = rw (y, z0, z1, z2, z3) in number-starts p l (rw e i) (rw e z))) λ z.
       (let i : isInner b ≡ true = rw (y, z0, z1, z2, z3) in (rw e i, rw e z, refl))
 
   pub read-starts : (i : ℕ) → Right (readAt text i)

@@ -8,10 +8,9 @@ use Prim.Native.Nat.{ℕ}
 use Rattle.scan.proofs.Bytes.{or-none}
 use lib.Dec.{eqb}
 use Rattle.refusals.specs.Refusals.{badNumber}
-use Rattle.token.specs.Tokens.{badAt}
+use Rattle.token.specs.Tokens.{isBadNumber, badAt}
 use Rattle.store.specs.Rows.{nodeRoom, numberRoom}
 use Rattle.store.specs.declared.ReadAnswer.{ReadAnswer}
-use Rattle.grammar.specs.Answers.{isBadNumber}
 use Rattle.grammar.specs.Grammar.{out, Got, ok, refused, halt}
 use Rattle.grammar.specs.Former.{numberIn, saysBad, Change, renews, stays}
 use Rattle.grammar_laws.proofs.Former.{bad-numbered, changes}

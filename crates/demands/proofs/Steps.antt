@@ -21,9 +21,9 @@ use Rattle.names.specs.Names.{meaning, ending, isEmptyWord}
 use Rattle.store.specs.Rows.{closeIn}
 use Rattle.store.proofs.Rows.{closeIn-length}
 use Rattle.token.specs.declared.Refusal.{Refusal}
+use Rattle.token.specs.Tokens.{isBadNumber}
 use Rattle.token_stream.specs.Stream.{open-tk, close-tk, comma-tk, none-tk, bad-tk, word-tk, number-tk, Tok, tok, Str, end, then, hd, tl, size}
 use Rattle.token_stream.proofs.Stream.{size-tl}
-use Rattle.grammar.specs.Answers.{isBadNumber}
 use Rattle.grammar.specs.Asks.{P, ret, ask, look, bind, Ran, ran, run}
 use Rattle.grammar.specs.Tokens.{sortBad, sortOpen, sortClose, sortComma, sortNumber, sortWord, sortOf, placeOf, startOf, textOf, refusalAt}
 use Rattle.grammar.specs.Grammar.{Out, out, Got, ok, refused, halt, Head, opens, empty, wrong, refusal, andThen, fill, rowsUsed, items, closing, addNode, addNumber, number, thenNumber, ifAsked, coord, pointBody, opened, isEmptyTok, opening, opener, headerEnding, header, byName, childHead, rootHead, lineBody, parens, lineIn, lineOf, linesBody, polygonIn, polygonOf, polygonsBody, pointIn, barePoint, pointOf, pointsBody, multi, simple, geometryBy, childOf, collection, geometry, root}

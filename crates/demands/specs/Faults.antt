@@ -18,9 +18,9 @@ use Rattle.names.specs.declared.Ending.{Ending}
 use Rattle.lists.specs.Lists.{every}
 use Rattle.names.specs.Names.{meaning, ending, isEmptyWord}
 use Rattle.token.specs.declared.Refusal.{Refusal}
-use Rattle.token.specs.Tokens.{badAt, textStart, endOf}
+use Rattle.token.specs.Tokens.{isBadNumber, badAt, textStart, endOf, numberText, WrongNumber}
 use Rattle.token_stream.specs.Stream.{open-tk, close-tk, comma-tk, none-tk, bad-tk, word-tk, number-tk, Tok, tok, Str, hd, tl, toks}
-use Rattle.grammar.specs.Answers.{Passes, isBadNumber}
+use Rattle.grammar.specs.Answers.{Passes}
 use Rattle.grammar.specs.Grammar.{isEmptyTok}
 use Rattle.demands.specs.Steps.{Stopping, Refusing}
 use Rattle.grammar.specs.Tokens.{sortBad, sortOpen, sortClose, sortNumber, sortWord, sortOf, placeOf, textOf}
@@ -71,16 +71,12 @@ pub record Among (s : Str) (t : Tok) : Type 0 where
 abbrev pub ByteAt : List ℕ → ℕ → ℕ → Type 0
 ByteAt text p b = (p < length text) × (getD text p 0 ≡ b)
 
--- "The kept number text is what follows the dropped `+`."
-abbrev pub numberText : List ℕ → ℕ → List ℕ
-numberText text p = part text (textStart text p) (endOf text (textStart text p))
-
 -- at its place a token starts: a mark is the byte there; a number or a bad number has its first byte there, be it a `+` that is dropped from the
--- kept text, and a bad number is exactly one whose text isn't of the grammar of `f64`, and has the refusal of the one at that place; a word has its bytes from
--- there on; "for "no token", the NUL or the text's length"
+-- kept text, and a bad number is exactly one whose text isn't of the grammar of `f64`, and has the refusal of the one at that place, which is told over
+-- the grammar (`WrongNumber`); a word has its bytes from there on; "for "no token", the NUL or the text's length"
 abbrev pub Starts : List ℕ → Tok → Type 0
 Starts text (tok p none-tk) = (p ≡ length text) ⊎ ByteAt text p nul
-Starts text (tok p (bad-tk r)) = (isNumberlike (getD text p 0) ≡ true) × (Float (numberText text p) → ⊥) × (r ≡ badAt text p)
+Starts text (tok p (bad-tk r)) = (isNumberlike (getD text p 0) ≡ true) × (Float (numberText text p) → ⊥) × (r ≡ badAt text p) × WrongNumber text p r
 Starts text (tok p open-tk) = ByteAt text p parenOpen
 Starts text (tok p close-tk) = ByteAt text p parenClose
 Starts text (tok p comma-tk) = ByteAt text p comma

@@ -6,10 +6,9 @@ use mathlib.Core.Logic.{_↔_}
 use mathlib.Core.List.{List}
 use Prim.Native.Nat.{ℕ}
 use Rattle.refusals.specs.Refusals.{badNumber}
-use Rattle.token.specs.Tokens.{badAt}
+use Rattle.token.specs.Tokens.{isBadNumber, badAt}
 use Rattle.store.specs.Rows.{nodeRoom, numberRoom}
 use Rattle.store.specs.declared.ReadAnswer.{ReadAnswer}
-use Rattle.grammar.specs.Answers.{isBadNumber}
 use Rattle.grammar.specs.Grammar.{refused}
 use Rattle.grammar.specs.Former.{formerReading}
 use Rattle.wkt.specs.Leaves.{answerOf, Leaves}
