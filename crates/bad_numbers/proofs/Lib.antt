@@ -1,1 +1,4 @@
+pub mod Decimals
+pub mod Openings
+pub mod Scans
 pub mod OneOutcome
