@@ -79,7 +79,7 @@ impl Sample {
     fn agree(&self, rust: &Reading) -> Result<(), String> {
         match rust {
             Reading::Accepted(tree) => self.agree_on_tree(tree),
-            Reading::Refused { number, .. } => self.agree_on_refusal(*number),
+            Reading::Refused { numbers, .. } => self.agree_on_refusal(numbers),
         }
     }
 
@@ -102,11 +102,13 @@ impl Sample {
         )
     }
 
-    fn agree_on_refusal(&self, number: u32) -> Result<(), String> {
+    /// The numbers are those of the Rust's message.
+    fn agree_on_refusal(&self, numbers: &[u32]) -> Result<(), String> {
         let last = self.text.len() as u64 - 1;
         hold(self.kind == Kind::Refused, "it should be accepted")?;
+        let is_the_rusts = |number: &u32| self.answer.number == u64::from(*number);
         hold(
-            self.answer.number == u64::from(number),
+            numbers.iter().any(is_the_rusts),
             "the refusal isn't the Rust's",
         )?;
         hold(

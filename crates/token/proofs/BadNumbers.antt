@@ -67,10 +67,10 @@ module _ (text : List ℕ) (p : ℕ) where
       gone-is wrong w = rw (left, some-left, starts, w)
 
       -- and it stands in the number, or at its end
-      pub gone-within : (wrong : ℕ) → wrong ≡ goesWrong (part text start end) → start + wrong ≤ end
+      pub gone-within : (wrong : ℕ) → wrong ≡ goesWrong (part text start end) → start + wrong ≤ length text
       gone-within wrong w =
           let l : length (part text start end) ≡ end - start = length-take-le (end - start) (drop start text) (omega (arith, length-drop start text, not-past isInner text start)) in
-          omega (arith, w, wrong-within (part text start end))
+          omega (arith, w, wrong-within (part text start end), e, not-past isInner text start)
 
 -- one of the two numbers that stand in the place of 6
 abbrev pub isBadNumber : ℕ → Bool
@@ -83,5 +83,5 @@ pub bad-in : (text : List ℕ) (p : ℕ) → p ≤ length text → BadIn text (b
 bad-in text p h = go (decLt (textStart text p) (endOf text (textStart text p)))
   where
     go : Dec (textStart text p < endOf text (textStart text p)) → BadIn text (badAt text p)
-    go (yes l) = rw (← gone-is text p _ _ refl refl l _ refl) (refl, omega (arith, gone-within text p _ _ refl refl l _ refl, not-past isInner text (textStart text p)))
+    go (yes l) = rw (← gone-is text p _ _ refl refl l _ refl) (refl, gone-within text p _ _ refl refl l _ refl)
     go (no l) = rw (← nothing-is text p _ _ refl refl (omega arith)) (refl, h)

@@ -1,6 +1,9 @@
 //! Cases: a text with what is asked of it.
 
 use crate::any_bytes;
+use crate::damage;
+use crate::grammar;
+use crate::model::{self, Limits};
 use crate::random::Random;
 use crate::store_cases;
 use crate::stored_cases;
@@ -43,7 +46,7 @@ impl Letter {
     }
 
     /// What is asked of the text under this letter, its fields and rows drawn. Of a stored
-    /// form the text is what it is made of.
+    /// form the text is what it is made of; some readings are of another text.
     pub fn case(self, random: &mut Random, text: Vec<u8>) -> Case {
         let request = match self {
             Letter::Take => {
@@ -54,10 +57,7 @@ impl Letter {
                 let (place, count) = place_and_count(random, &text);
                 Request::LookAndTake { place, count }
             }
-            Letter::Read => {
-                let (nodes, numbers) = rooms(random, text.len());
-                Request::Read { nodes, numbers }
-            }
+            Letter::Read => return reading(random, text),
             Letter::Infer => Request::Infer,
             Letter::Write => {
                 let rows = store_cases::rows(random, &text);
@@ -98,6 +98,38 @@ pub fn encode(cases: &[Case]) -> Vec<u8> {
     stream
 }
 
+/// One reading in so many is that of a geometry with a bad number put in.
+const BAD_NUMBER_EVERY: usize = 6;
+
+fn reading(random: &mut Random, text: Vec<u8>) -> Case {
+    let text = match random.once_in(BAD_NUMBER_EVERY) {
+        true => with_bad_number(random).into_bytes(),
+        false => text,
+    };
+    let (nodes, numbers) = rooms(random, text.len());
+    let request = Request::Read { nodes, numbers };
+    Case { request, text }
+}
+
+fn with_bad_number(random: &mut Random) -> String {
+    let geometry = accepted_geometry(random);
+    let text = match random.once_in(3) {
+        true => grammar::in_collection(&geometry),
+        false => geometry,
+    };
+    damage::bad_number(random, &text)
+}
+
+/// One in which no number is spoilt: its refusal would come first.
+fn accepted_geometry(random: &mut Random) -> String {
+    loop {
+        let geometry = grammar::geometry(random);
+        if model::read(&geometry, Limits::NONE).is_ok() {
+            return geometry;
+        }
+    }
+}
+
 /// A place (the start, inside, the end, past it) and, in most cases, so many demands
 /// that the true end answers twice.
 fn place_and_count(random: &mut Random, text: &[u8]) -> (u32, u32) {
@@ -134,4 +166,85 @@ fn rooms(random: &mut Random, text_length: usize) -> (u32, u32) {
         slice(3 * node_rows + beyond_a_row),
         slice(2 * number_rows + beyond_a_row),
     )
+}
+
+#[cfg(test)]
+mod tests {
+    use super::*;
+    use crate::bad_numbers::{GOES_WRONG, NOTHING_AFTER_PLUS};
+    use crate::model::Refusal;
+    use crate::texts::Texts;
+    use driver::tokens::{self, Demand, Seen};
+    use std::collections::BTreeMap;
+
+    /// Where a bad number was taken: the refusal that "no token" gets there, whether the body
+    /// was refused before, and whether that is in a collection.
+    type Step = (u32, bool, bool);
+
+    /// Root; parenthesis; the closing one, of a good body and of a refused one; X, Y, Z and M;
+    /// a collection's child. Each is met in a collection too, but for the root.
+    const STEPS: [Step; 16] = [
+        (8, false, false),
+        (12, false, false),
+        (12, false, true),
+        (13, false, false),
+        (13, false, true),
+        (13, true, false),
+        (13, true, true),
+        (14, false, false),
+        (14, false, true),
+        (15, false, false),
+        (15, false, true),
+        (16, false, false),
+        (16, false, true),
+        (17, false, false),
+        (17, false, true),
+        (18, false, true),
+    ];
+
+    fn step(text: &str, refusal: Refusal) -> Step {
+        let tokens = tokens::take(text, 0, text.len() + 1, Demand::Take);
+        let tokens = tokens.expect("0 is a character's place").into_iter();
+        let bad = tokens.filter(|token| token.seen == Seen::BadNumber);
+        let bad = bad.filter(|token| token.place <= refusal.place).last();
+        let start = bad.expect("it was taken").place;
+        let end = text[start..].find(|character| " \t\n\r\0(),".contains(character));
+        let end = end.map_or(text.len(), |length| start + length);
+        let with_token = |token: &str| {
+            let text = [&text[..start], token, &text[end..]].concat();
+            model::read(&text, Limits::NONE).err()
+        };
+        let number = with_token("\0").map_or(0, |refusal| refusal.number);
+        let is_behind_refused = with_token(")").is_some_and(|refusal| refusal.place < start);
+        let is_in_collection = text[..start].to_ascii_uppercase().contains("COLLECTION");
+        (number, number == 13 && is_behind_refused, is_in_collection)
+    }
+
+    /// The number and the step of a reading that ends at a bad number.
+    fn bad_number(case: &Case) -> Option<(u32, Step)> {
+        let text = std::str::from_utf8(&case.text).ok()?;
+        let refusal = model::read(text, Limits::NONE).err()?;
+        let is_bad_number = [NOTHING_AFTER_PLUS, GOES_WRONG].contains(&refusal.number);
+        is_bad_number.then(|| (refusal.number, step(text, refusal)))
+    }
+
+    #[test]
+    fn bad_numbers_are_read_at_each_step() {
+        let mut texts = Texts::new(1);
+        let mut random = Random::new(!1);
+        let mut counts: BTreeMap<(u32, Step), usize> = BTreeMap::new();
+        for _ in 0..200_000 {
+            let case = Letter::Read.case(&mut random, texts.next_short());
+            if let Some(met) = bad_number(&case) {
+                *counts.entry(met).or_default() += 1;
+            }
+        }
+        assert_eq!(counts.len(), 2 * STEPS.len());
+        for step in STEPS {
+            for number in [NOTHING_AFTER_PLUS, GOES_WRONG] {
+                let count = counts[&(number, step)];
+                assert!(count >= 15, "{number} at {step:?}: {count}");
+            }
+        }
+    }
 }

@@ -15,7 +15,8 @@ pub struct Count {
     pub at_model_place: usize,
     pub at_model_limit: usize,
     pub of_stores: usize,
-    /// Of stores: how many records had this number and, where there is one, this letter.
+    /// How many records had this number or, where there is one, this letter; of tokens, which
+    /// have neither, nothing.
     pub outcomes: BTreeMap<String, usize>,
 }
 
@@ -31,11 +32,15 @@ impl Count {
             Basis::Limit => &mut self.at_model_limit,
             Basis::Stores => &mut self.of_stores,
         } += 1;
-        if expected.basis == Basis::Stores {
+        if !is_of_tokens(letter) {
             let outcome = outcome(&expected.line, letter);
             *self.outcomes.entry(outcome).or_default() += 1;
         }
     }
+}
+
+fn is_of_tokens(letter: u8) -> bool {
+    matches!(letter, b't' | b'p')
 }
 
 /// A refusal's number; else `accepted` or, of the strict check, the letter of a rule.
@@ -99,4 +104,29 @@ fn compare(
         return Some(Fault::Broken(message));
     }
     None
+}
+
+#[cfg(test)]
+mod tests {
+    use super::*;
+
+    #[test]
+    fn each_refusal_is_counted() {
+        let mut count = Count::default();
+        for (line, basis, letter) in [
+            ("28 6 0 0 ;  ;  ; 0", Basis::Place, b'r'),
+            ("29 7 0 0 ;  ;  ; 0", Basis::Place, b'r'),
+            ("29 9 0 0 ;  ;  ; 0", Basis::Place, b'r'),
+            ("0 0 1 0 ; 1 0 0 ;  ; 0", Basis::Rust, b'r'),
+            ("bad@0", Basis::Rust, b't'),
+            ("0 66 1", Basis::Stores, b's'),
+        ] {
+            let line = line.to_string();
+            count.add(&Expected { line, basis }, letter);
+        }
+        let outcomes = [("28", 1), ("29", 2), ("B", 1), ("accepted", 1)];
+        let outcomes = outcomes.map(|(outcome, records)| (outcome.to_string(), records));
+        assert_eq!(count.outcomes, BTreeMap::from(outcomes));
+        assert_eq!(count.agreed(), 6);
+    }
 }

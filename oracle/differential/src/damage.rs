@@ -70,6 +70,34 @@ pub fn tokens(random: &mut Random, text: &str) -> String {
     .concat()
 }
 
+/// A bad number is put where a token stands, or behind them all. At times it comes behind a
+/// token that its body may be refused for, and is then the closing one that is taken.
+pub fn bad_number(random: &mut Random, text: &str) -> String {
+    let mut ranges = token_ranges(text);
+    ranges.push(text.len()..text.len());
+    let token = random.pick(&ranges).clone();
+    let before = &text[..token.start];
+    let ends_apart = before.is_empty() || before.ends_with(is_stop);
+    let blank = if ends_apart { "" } else { " " };
+    let wrong = random.pick(&["", "", "", "", "x ", "1x ", ","]);
+    let bad = numbers::bad(random);
+    let stop = random.pick(&["", "", " ", "\t", "\n", "\r", "\0", "(", ")", ","]);
+    // Only if all that is open is closed, no later refusal takes its place.
+    let closing = ")".repeat(open_parentheses(before));
+    let after = match random.below(6) {
+        0 => "",
+        1 => &text[token.start..],
+        2 => &text[token.end..],
+        _ => &closing,
+    };
+    [before, blank, wrong, &bad, stop, after].concat()
+}
+
+fn open_parentheses(text: &str) -> usize {
+    let opened = text.matches('(').count();
+    opened.saturating_sub(text.matches(')').count())
+}
+
 /// All that lies between two parentheses becomes a token or two.
 pub fn inside_parentheses(random: &mut Random, text: &str) -> String {
     let opened: Vec<usize> = text.match_indices('(').map(|(place, _)| place).collect();
@@ -105,8 +133,8 @@ fn token_ranges(text: &str) -> Vec<Range<usize>> {
     let mut is_in_run = false;
     for (start, character) in text.char_indices() {
         let end = start + character.len_utf8();
-        let is_marker = matches!(character, '(' | ')' | ',' | '\0');
-        let is_blank = matches!(character, ' ' | '\t' | '\n' | '\r');
+        let is_marker = is_marker(character);
+        let is_blank = is_stop(character) && !is_marker;
         match ranges.last_mut() {
             _ if is_blank => {}
             Some(run) if is_in_run && !is_marker => run.end = end,
@@ -115,6 +143,15 @@ fn token_ranges(text: &str) -> Vec<Range<usize>> {
         is_in_run = !is_marker && !is_blank;
     }
     ranges
+}
+
+fn is_marker(character: char) -> bool {
+    matches!(character, '(' | ')' | ',' | '\0')
+}
+
+/// A marker or a blank: no number and no word goes on here.
+fn is_stop(character: char) -> bool {
+    is_marker(character) || matches!(character, ' ' | '\t' | '\n' | '\r')
 }
 
 #[cfg(test)]

@@ -43,6 +43,11 @@ pub fn nested(random: &mut Random) -> String {
     format!("{open}{}{close}", geometry(random))
 }
 
+/// The only member of a collection.
+pub fn in_collection(geometry: &str) -> String {
+    format!("{}({geometry})", NAMES[COLLECTION])
+}
+
 struct GeometryWriter<'random> {
     random: &'random mut Random,
     text: String,

@@ -1,8 +1,11 @@
 //! Fixed lists of records with the expected answers, for the gate to replay: the
 //! Rust's own tests, the edges of document 01, then generated texts; first under the
 //! letters of tokens, then under `r` and `i`, then stores under `w` and `s`, whole ranges of
-//! bytes and refusals, and records that have no answer. The order of the sections is fixed and the seed decides the rest.
+//! bytes and refusals, bad numbers, and records that have no answer. The order of the sections
+//! is fixed and the seed decides the rest.
 
+use crate::bad_number_lists;
+use crate::bad_numbers::{GOES_WRONG, NOTHING_AFTER_PLUS};
 use crate::cases::{self, Case, Letter};
 use crate::expected::expected;
 use crate::random::Random;
@@ -142,11 +145,13 @@ const INFERRED: &[&str] = &[
 ];
 
 /// How many generated records of these letters there are, spread over their answers.
-const READINGS: usize = 3_000;
+const READINGS: usize = 3_120;
 const INFERENCES: usize = 500;
 const WRITINGS: usize = 400;
 const CHECKS: usize = 400;
 
+/// Generated texts under these letters are short.
+const MOST_TEXT_BYTES: usize = 64;
 /// Generated stores are smaller.
 const MOST_PLACES: usize = 48;
 /// And so are stored bytes.
@@ -167,6 +172,7 @@ pub fn write(seed: u64, generated: usize, directory: &Path) -> io::Result<()> {
     cases.extend(spread(seed, Letter::Write, WRITINGS));
     cases.extend(spread(seed, Letter::Check, CHECKS));
     cases.extend(range_lists::cases());
+    cases.extend(bad_number_lists::cases());
     write_files(&cases, &store_lists::bad_records(), b's', directory)
 }
 
@@ -329,22 +335,21 @@ pub fn point_and_blanks(length: usize) -> String {
     POINT.to_string() + &" ".repeat(length - POINT.len())
 }
 
-/// A refusal's number with, of 22, the clause that is broken and, of 25, what is wrong with
-/// which field; or 0 with the kind that was read or written or, of the strict check, a
+/// A refusal's number with, of 22, the clause that is broken, of 25, what is wrong with which
+/// field and, of a bad number, whether it stands at the root; or 0 with the kind that was read or written or, of the strict check, a
 /// rule's letter.
 type Class = (u32, u32);
 
 /// Generated texts under one letter, spread evenly over the classes of answers and, in
 /// each class, over the texts that were drawn.
 pub fn spread(seed: u64, letter: Letter, count: usize) -> Vec<Case> {
-    const LONGEST: usize = 64;
     const DRAWN: usize = 1_000_000;
     let mut texts = Texts::new(seed);
     let mut random = Random::new(!seed);
     let mut by_class: BTreeMap<Class, Vec<Case>> = BTreeMap::new();
     for _ in 0..DRAWN {
         let text = texts.next_short();
-        if text.len() <= LONGEST {
+        if text.len() <= MOST_TEXT_BYTES {
             let case = letter.case(&mut random, text);
             if is_small(&case) {
                 by_class.entry(class(&case)).or_default().push(case);
@@ -367,6 +372,7 @@ fn is_small(case: &Case) -> bool {
             places(rows) <= MOST_PLACES && case.text.len() <= MOST_BYTES
         }
         Request::ReadStored { .. } => case.text.len() <= MOST_BYTES,
+        Request::Read { .. } => case.text.len() <= MOST_TEXT_BYTES,
         _ => true,
     }
 }
@@ -395,8 +401,16 @@ fn class(case: &Case) -> Class {
             let read = stored::read(&case.text, Room::of(*nodes, *numbers));
             (refusal, read.expect_err("it is refused").sort())
         }
+        (refusal @ (NOTHING_AFTER_PLUS | GOES_WRONG), _) => {
+            (refusal, u32::from(begins_with_number(&case.text)))
+        }
         (refusal, _) => (refusal, 0),
     }
+}
+
+fn begins_with_number(text: &[u8]) -> bool {
+    let first = text.iter().find(|byte| !b" \t\n\r".contains(byte));
+    matches!(first, Some(b'.' | b'-' | b'+' | b'0'..=b'9'))
 }
 
 fn clause(text: &[u8], rows: &Rows) -> u32 {

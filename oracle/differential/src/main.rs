@@ -5,6 +5,8 @@
 //! the program `replay_stored`, and with `--tokens` that of the program `tokens`.
 
 mod any_bytes;
+mod bad_number_lists;
+mod bad_numbers;
 mod cases;
 mod check;
 mod damage;

@@ -3,9 +3,11 @@
 //!
 //! It goes through the Rust's own tokens, which have places, in the way of the Rust's
 //! functions. `expected` holds it to the Rust on every text: without limits it has to
-//! accept the same, with the same tree, and to refuse the same, with the same number.
-//! So of an answer only the place of a refusal and the refusals at a limit rest on it.
+//! accept the same, with the same tree, and to refuse the same, with the same message.
+//! So of an answer only the place of a refusal, what is wrong with a bad number and the
+//! refusals at a limit rest on it.
 
+use crate::bad_numbers;
 use driver::reader::{
     NodeRow, GEOMETRY_COLLECTION, LINE_STRING, MULTI_LINE_STRING, MULTI_POINT, MULTI_POLYGON,
     POINT, POLYGON,
@@ -15,7 +17,6 @@ use driver::tokens::{self, Demand, Placed, Seen, Span};
 pub const NO_NODE_ROW: u32 = 3;
 pub const NO_NUMBER_ROW: u32 = 4;
 pub const TOO_DEEP: u32 = 5;
-const BAD_NUMBER: u32 = 6;
 const NON_ASCII_ROOT: u32 = 7;
 const NO_ROOT: u32 = 8;
 const UNKNOWN_NAME: u32 = 9;
@@ -137,9 +138,18 @@ impl<'text> Reader<'text> {
         let token = self.look();
         self.taken += 1;
         match token.seen {
-            Seen::BadNumber => refused(BAD_NUMBER, token.place),
+            Seen::BadNumber => {
+                let (number, place) = bad_numbers::refusal(self.run_from(token.place));
+                refused(number, token.place + place)
+            }
             _ => Ok(token),
         }
+    }
+
+    /// The text of a number or a word that starts here: up to a blank, NUL or a mark.
+    fn run_from(&self, place: usize) -> &'text str {
+        let mut runs = self.text[place..].split([' ', '\t', '\n', '\r', '\0', '(', ')', ',']);
+        runs.next().expect("a split has a first part")
     }
 
     fn text_of(&self, span: Span) -> &'text str {
@@ -349,9 +359,46 @@ mod tests {
             ("GEOMETRYCOLLECTION(京)", 9, 19),
             ("GEOMETRYCOLLECTION(京(1 2))", 13, 22),
             ("GEOMETRYCOLLECTION(POINT foo)", 13, 25),
-            ("GEOMETRYCOLLECTION(POINT 4x)", 6, 25),
+            ("GEOMETRYCOLLECTION(POINT 4x)", 29, 26),
             ("GEOMETRYCOLLECTION(POINT \0)", 13, 25),
             ("GEOMETRYCOLLECTION(POINTZ \0)", 12, 26),
+        ] {
+            assert_eq!(refusal(text, Limits::NONE), (number, place), "{text:?}");
+        }
+    }
+
+    #[test]
+    fn bad_numbers_at_each_step() {
+        for (text, number, place) in [
+            ("+", 28, 0),
+            (" \t+ 1", 28, 2),
+            ("+)", 28, 0),
+            ("++", 29, 2),
+            ("+x(1 2)", 29, 1),
+            ("POINT +", 10, 6),
+            ("POINT +x", 10, 6),
+            ("POINTZ +", 28, 7),
+            ("POINT Z +x", 29, 9),
+            ("POINT(+)", 28, 6),
+            ("POINT(+\0)", 13, 7),
+            ("POINT(4x)", 29, 7),
+            ("POINT(4x 2)", 13, 9),
+            ("POINT(1 1e+)", 29, 11),
+            ("POINT(1 +,", 13, 9),
+            ("POINTZ(1 2 .e5)", 29, 12),
+            ("POINTM(1 2 --1)", 29, 12),
+            ("POINTZM(1 2 3 +)", 28, 14),
+            ("POINT(1 2 1.2.3", 29, 13),
+            ("POINT(1 2 +", 28, 10),
+            ("POINT(x -infx)", 29, 12),
+            ("POINT(x +\n", 28, 8),
+            ("POINT(4x +infi", 29, 14),
+            ("LINESTRING(1 2,3 1京)", 29, 18),
+            ("MULTIPOINT(+\r)", 28, 11),
+            ("POLYGON(1e)", 29, 10),
+            ("GEOMETRYCOLLECTION(+)", 28, 19),
+            ("GEOMETRYCOLLECTION(POINT +)", 28, 25),
+            ("GEOMETRYCOLLECTION(POINT(1 2) -", 29, 31),
         ] {
             assert_eq!(refusal(text, Limits::NONE), (number, place), "{text:?}");
         }

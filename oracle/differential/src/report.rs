@@ -18,11 +18,12 @@ pub fn print_tally(seed: u64, texts: usize, tally: &Tally) {
     for (letter, count) in tally {
         let letter = char::from(*letter);
         println!("{letter}: {} records agreed", count.agreed());
-        if count.of_stores > 0 {
+        if !count.outcomes.is_empty() {
             let outcomes = count.outcomes.iter();
             let outcomes = outcomes.map(|(outcome, records)| format!("{outcome}: {records}"));
             println!("   {}", outcomes.collect::<Vec<_>>().join(", "));
-        } else if count.by_rust < count.agreed() {
+        }
+        if count.at_model_place + count.at_model_limit > 0 {
             println!("   {} with the Rust alone", count.by_rust);
             println!(
                 "   {} with its refusal and the model's place",

@@ -1,4 +1,4 @@
-//! The Rust's reader: the tree as rows, or the refusal's number.
+//! The Rust's reader: the tree as rows, or the numbers that its refusal may have.
 
 use crate::kept::{self, KeptNumber};
 use std::fmt::Write;
@@ -20,21 +20,25 @@ pub const MULTI_LINE_STRING: u32 = 5;
 pub const MULTI_POLYGON: u32 = 6;
 pub const GEOMETRY_COLLECTION: u32 = 7;
 
-/// What the Rust's reader says, and the number that document 01 gives it.
-const REFUSALS: [(u32, &str); 13] = [
-    (6, "Unable to parse input number as the desired output type"),
-    (7, "Encountered non-ascii word"),
-    (8, "Invalid WKT format"),
-    (9, "Invalid type encountered"),
-    (10, "End of stream"),
-    (11, "Unexpected word before open paren"),
-    (12, "Missing open parenthesis for type"),
-    (13, "Missing closing parenthesis for type"),
-    (14, "Expected a number for the X coordinate"),
-    (15, "Expected a number for the Y coordinate"),
-    (16, "Expected a number for the Z coordinate"),
-    (17, "Expected a number for the M coordinate"),
-    (18, "Expected a word in GEOMETRYCOLLECTION"),
+/// What the Rust's reader says, and the numbers that documents 01 and 02 give it. Of a bad
+/// number the Rust doesn't say what is wrong with it, so there are two.
+const REFUSALS: [(&[u32], &str); 13] = [
+    (
+        &[28, 29],
+        "Unable to parse input number as the desired output type",
+    ),
+    (&[7], "Encountered non-ascii word"),
+    (&[8], "Invalid WKT format"),
+    (&[9], "Invalid type encountered"),
+    (&[10], "End of stream"),
+    (&[11], "Unexpected word before open paren"),
+    (&[12], "Missing open parenthesis for type"),
+    (&[13], "Missing closing parenthesis for type"),
+    (&[14], "Expected a number for the X coordinate"),
+    (&[15], "Expected a number for the Y coordinate"),
+    (&[16], "Expected a number for the Z coordinate"),
+    (&[17], "Expected a number for the M coordinate"),
+    (&[18], "Expected a word in GEOMETRYCOLLECTION"),
 ];
 
 #[derive(Clone, Debug, PartialEq, Eq)]
@@ -55,7 +59,11 @@ pub struct Tree {
 #[derive(Clone, Debug, PartialEq, Eq)]
 pub enum Reading {
     Accepted(Tree),
-    Refused { number: u32, message: &'static str },
+    Refused {
+        /// One of these.
+        numbers: &'static [u32],
+        message: &'static str,
+    },
 }
 
 /// Reads a text with the Rust. Nesting has no limit there, so the thread's stack
@@ -69,13 +77,13 @@ pub fn read(text: &str) -> Reading {
             Reading::Accepted(tree)
         }
         Err(message) => Reading::Refused {
-            number: refusal_number(message),
+            numbers: refusal_numbers(message),
             message,
         },
     }
 }
 
-fn refusal_number(message: &str) -> u32 {
+fn refusal_numbers(message: &str) -> &'static [u32] {
     let known = REFUSALS.iter().find(|(_, text)| *text == message);
     known.expect("the Rust's reader says only these").0
 }
@@ -175,11 +183,14 @@ impl Tree {
 }
 
 /// `accepted NODES NUMBERS ; node rows ; text:bits of each number`, texts and bits
-/// in hex, or `refused NUMBER MESSAGE`.
+/// in hex, or `refused NUMBER MESSAGE`, all its numbers with `/` between.
 pub fn line(reading: &Reading) -> String {
     let tree = match reading {
         Reading::Accepted(tree) => tree,
-        Reading::Refused { number, message } => return format!("refused {number} {message}"),
+        Reading::Refused { numbers, message } => {
+            let numbers: Vec<String> = numbers.iter().map(u32::to_string).collect();
+            return format!("refused {} {message}", numbers.join("/"));
+        }
     };
     let rows: Vec<String> = tree.nodes.iter().flatten().map(u32::to_string).collect();
     let numbers: Vec<String> = tree.numbers.iter().map(number_in_hex).collect();
@@ -240,15 +251,29 @@ mod tests {
             ("GEOMETRYCOLLECTION(京)", 9),
             ("GEOMETRYCOLLECTION(京(1 2))", 13),
             ("京", 7),
-            ("4x", 6),
             ("POINT foo", 11),
             ("GEOMETRYCOLLECTION()", 13),
             ("GEOMETRYCOLLECTION(())", 18),
         ] {
             match read(text) {
-                Reading::Refused { number: got, .. } => assert_eq!(got, number, "{text:?}"),
+                Reading::Refused { numbers, .. } => assert_eq!(numbers, [number], "{text:?}"),
                 Reading::Accepted(_) => panic!("{text:?} was accepted"),
             }
+        }
+    }
+
+    #[test]
+    fn a_bad_number_has_one_message_and_two_numbers() {
+        let line = "refused 28/29 Unable to parse input number as the desired output type";
+        for text in [
+            "+",
+            "4x",
+            "POINTZ 4x",
+            "POINT(+)",
+            "POINT(1 2 4x",
+            "POINT(x +",
+        ] {
+            assert_eq!(answer(text), line, "{text:?}");
         }
     }
 
