@@ -130,12 +130,26 @@ size_t doorhollow_enough_rows(size_t text_length);
  *
  * answer: number, place, count of node rows, count of number rows.
  * Every place of both slices after the used rows is 0, and after a refusal
- * every place. Refusals 1 to 18.
+ * every place. Refusals 1 to 5, 7 to 18, 28 and 29.
+ *
+ * 28 and 29 are those of a number. Of `+5` the plus is dropped: where nothing
+ * is left then, 28 is answered with the place of that plus. Else 29, with the
+ * place of the first byte at which no number's text can go on, or of the
+ * token's end where more was needed: 9 in `POINT(1 4x)`, 10 in `POINT(1 1e)`.
  */
 void doorhollow_read(const uint8_t *text, size_t text_length,
                      uint32_t *nodes, size_t node_places,
                      uint32_t *numbers, size_t number_places,
                      uint64_t answer[DOORHOLLOW_ANSWER_PLACES]);
+
+/*
+ * What was expected where a text was refused: number and place are those of the
+ * answer. For 28 and 29 one of DOORHOLLOW_EXPECTED_.., whose words stand beside
+ * it; for any other number DOORHOLLOW_NO_EXPECTATION. Of `POINT(1 1e)`, refused
+ * 29 at 10, it is DOORHOLLOW_EXPECTED_DIGIT_OR_SIGN.
+ */
+uint32_t doorhollow_expected(const uint8_t *text, size_t text_length,
+                             uint32_t number, size_t place);
 
 /*
  * Writes the canonical text of a store, which is lent with its used rows only:

@@ -96,6 +96,6 @@ unfolding all
 wide = (refl, refl, refl)
 
 -- ---- of a refusal: 28 and 29, and any other, 6 with them
-ofRefusal : (expectedOf (bytes "POINT(+ 1)") nothingAfterPlus 6 ≡ numberOrWord) × (expectedOf (bytes "POINT(4x 2)") numberGoesWrong 7 ≡ nothingMore) × (expectedOf (bytes "POINT(1e 2)") numberGoesWrong 8 ≡ digitOrSign) × (expectedOf (bytes "POINT(x 2)") notClosed 8 ≡ noExpectation) × (expectedOf (bytes "POINT(4x 2)") badNumber 6 ≡ noExpectation) × (expectedOf (bytes "POINT(4x 2)") 0 7 ≡ noExpectation)
+ofRefusal : (expectedOf (bytes "POINT(1 +)") nothingAfterPlus 8 ≡ numberOrWord) × (expectedOf (bytes "POINT(1 4x)") numberGoesWrong 9 ≡ nothingMore) × (expectedOf (bytes "POINT(1 1e)") numberGoesWrong 10 ≡ digitOrSign) × (expectedOf (bytes "POINT(x 2)") notClosed 8 ≡ noExpectation) × (expectedOf (bytes "POINT(1 4x)") badNumber 9 ≡ noExpectation) × (expectedOf (bytes "POINT(1 4x)") 0 9 ≡ noExpectation)
 unfolding all
 ofRefusal = (refl, refl, refl, refl, refl, refl)

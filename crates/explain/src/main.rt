@@ -5,11 +5,11 @@
 //   GEOMETRYCOLLECTION(京(1 2))
 //                        ^
 //
-// a number that goes wrong, as in `POINT(4x 2)`, with what was expected there,
+// a number that goes wrong, as in `POINT(1 4x)`, with what was expected there,
 //
-//   refused 29 7: Unable to parse input number as the desired output type: nothing more was expected
-//   POINT(4x 2)
-//          ^
+//   refused 29 9: Unable to parse input number as the desired output type: nothing more was expected
+//   POINT(1 4x)
+//            ^
 //
 // and of a text that is read the counts of its nodes and numbers are told, as in `accepted 1 2`.
 mod characters;
