@@ -8,6 +8,7 @@ use Rattle.token.specs.declared.Token.{Token}
 use Rattle.token.specs.declared.Token.the-variants.{Comma, Number, ParenClose, ParenOpen, Word}
 use Rattle.tokenizer.specs.declared.Held.{Held}
 use Rattle.tokenizer.specs.declared.Cursor.{Cursor}
+use Rattle.token.specs.Examples.{allBad}
 use Rattle.token.specs.Tokens.{startAt, tokenAt, readAt}
 use Rattle.tokenizer.specs.Tokens.{takeHeld, cursorAt}
 use Rattle.store.specs.Rows.{Row, Span, put, closeRow}
@@ -29,7 +30,7 @@ five : List ℕ
 five = 7 ∷ 0 ∷ 0 ∷ 1 ∷ 0 ∷ []
 
 all : ℕ
-unfolding text ns five run firstNot afterOneAt startAt tokenAt readAt takeHeld clipped told takenAt put closeRow closedAt closedNodes afterRefusal rowFor
+unfolding allBad text ns five run firstNot afterOneAt startAt tokenAt readAt takeHeld clipped told takenAt put closeRow closedAt closedNodes afterRefusal rowFor
 all = 0
 
 -- a cursor at 9 that holds something which was read at 7
@@ -44,8 +45,8 @@ closed : (after (cursorAt 0) ≡ Read (spot 1 5 6)) × (after (cursorAt 1) ≡ R
 unfolding all after holding
 closed = (refl, refl, refl)
 
--- "anything but `)` gives 13", "A bad number there gives 6": each sort, at its place, and it is taken
-unclosed : (after (cursorAt 3) ≡ Refused (refusal 13 3) (cursorAt 4)) × (after (cursorAt 4) ≡ Refused (refusal 13 4) (cursorAt 5)) × (after (cursorAt 5) ≡ Refused (refusal 13 5) (cursorAt 6)) × (after (cursorAt 6) ≡ Refused (refusal 13 6) (cursorAt 6)) × (after (holding (Held.Is 7 ParenOpen)) ≡ Refused (refusal 13 7) (cursorAt 9)) × (after (holding (Held.Is 7 Comma)) ≡ Refused (refusal 13 7) (cursorAt 9)) × (after (holding (Held.Is 7 (Number 8 1))) ≡ Refused (refusal 13 7) (cursorAt 9)) × (after (holding (Held.Is 7 (Word 7 2))) ≡ Refused (refusal 13 7) (cursorAt 9)) × (after (holding (Held.NoToken 7)) ≡ Refused (refusal 13 7) (cursorAt 9)) × (after (holding (Held.BadNumber 7)) ≡ Refused (refusal 6 7) (cursorAt 9))
+-- "anything but `)` gives 13", a bad number what it is refused with (past the end nothing is left of it): each sort, at its place, and it is taken
+unclosed : (after (cursorAt 3) ≡ Refused (refusal 13 3) (cursorAt 4)) × (after (cursorAt 4) ≡ Refused (refusal 13 4) (cursorAt 5)) × (after (cursorAt 5) ≡ Refused (refusal 13 5) (cursorAt 6)) × (after (cursorAt 6) ≡ Refused (refusal 13 6) (cursorAt 6)) × (after (holding (Held.Is 7 ParenOpen)) ≡ Refused (refusal 13 7) (cursorAt 9)) × (after (holding (Held.Is 7 Comma)) ≡ Refused (refusal 13 7) (cursorAt 9)) × (after (holding (Held.Is 7 (Number 8 1))) ≡ Refused (refusal 13 7) (cursorAt 9)) × (after (holding (Held.Is 7 (Word 7 2))) ≡ Refused (refusal 13 7) (cursorAt 9)) × (after (holding (Held.NoToken 7)) ≡ Refused (refusal 13 7) (cursorAt 9)) × (after (holding (Held.BadNumber 7)) ≡ Refused (refusal 28 7) (cursorAt 9))
 unfolding all after holding
 unclosed = (refl, refl, refl, refl, refl, refl, refl, refl, refl, refl)
 
@@ -58,7 +59,7 @@ lost : Cursor → Answer
 lost c = afterRefusal text (Refused (refusal 11 8) c)
 
 -- "After the body one token is always taken, even when the body was refused."
-taken : (lost (cursorAt 0) ≡ Refused (refusal 11 8) (cursorAt 1)) × (lost (cursorAt 1) ≡ Refused (refusal 11 8) (cursorAt 3)) × (lost (holding (Held.Is 7 ParenClose)) ≡ Refused (refusal 11 8) (cursorAt 9)) × (lost (cursorAt 3) ≡ Refused (refusal 13 3) (cursorAt 4)) × (lost (cursorAt 4) ≡ Refused (refusal 13 4) (cursorAt 5)) × (lost (cursorAt 6) ≡ Refused (refusal 13 6) (cursorAt 6)) × (lost (holding (Held.Is 7 (Word 7 2))) ≡ Refused (refusal 13 7) (cursorAt 9)) × (lost (holding (Held.NoToken 7)) ≡ Refused (refusal 13 7) (cursorAt 9)) × (lost (holding (Held.BadNumber 7)) ≡ Refused (refusal 6 7) (cursorAt 9))
+taken : (lost (cursorAt 0) ≡ Refused (refusal 11 8) (cursorAt 1)) × (lost (cursorAt 1) ≡ Refused (refusal 11 8) (cursorAt 3)) × (lost (holding (Held.Is 7 ParenClose)) ≡ Refused (refusal 11 8) (cursorAt 9)) × (lost (cursorAt 3) ≡ Refused (refusal 13 3) (cursorAt 4)) × (lost (cursorAt 4) ≡ Refused (refusal 13 4) (cursorAt 5)) × (lost (cursorAt 6) ≡ Refused (refusal 13 6) (cursorAt 6)) × (lost (holding (Held.Is 7 (Word 7 2))) ≡ Refused (refusal 13 7) (cursorAt 9)) × (lost (holding (Held.NoToken 7)) ≡ Refused (refusal 13 7) (cursorAt 9)) × (lost (holding (Held.BadNumber 7)) ≡ Refused (refusal 28 7) (cursorAt 9))
 unfolding all lost holding
 taken = (refl, refl, refl, refl, refl, refl, refl, refl, refl)
 

@@ -6,10 +6,11 @@ use mathlib.Core.List.{List}
 use lib.Dec.{eqb, leb}
 use lib.ListN.{length}
 use Rattle.limits.specs.Limits.{overLimit}
-use Rattle.refusals.specs.Refusals.{textTooLong, illFormedUtf8, noNodeRow, tooDeep, badNumber, noChild}
+use Rattle.refusals.specs.Refusals.{textTooLong, illFormedUtf8, noNodeRow, tooDeep, nonAsciiRoot, noChild}
 use Rattle.utf8.specs.Utf8.{isUtf8}
 use Rattle.store.specs.Rows.{Row, Span}
 use Rattle.token.specs.declared.Refusal.{Refusal}
+use Rattle.token.specs.Tokens.{isBadNumber}
 use Rattle.lists.specs.Lists.{All}
 use Rattle.tree.specs.TreeIn.{SpanIn}
 
@@ -18,9 +19,9 @@ pub record Passes (text : List ℕ) : Type 0 where
   pub short : overLimit (length text) ≡ false
   pub utf8 : isUtf8 text ≡ true
 
--- "Refusal numbers": a text that is not looked at (1, 2), and what is met in it (6 to 18)
+-- "Refusal numbers": a text that is not looked at (1, 2), and what is met in it (7 to 18, and a bad number)
 abbrev pub isRefusal : ℕ → Bool
-isRefusal e = eqb e textTooLong || eqb e illFormedUtf8 || leb badNumber e && leb e noChild
+isRefusal e = eqb e textTooLong || eqb e illFormedUtf8 || leb nonAsciiRoot e && leb e noChild || isBadNumber e
 
 -- "Refusals 3, 4 and 5 instead end the reading at once."
 abbrev pub isHalt : ℕ → Bool

@@ -13,6 +13,7 @@ use Rattle.kinds.specs.Kinds.{kindPoint, kindLineString, kindPolygon, kindMulti
 use Rattle.lists.specs.Lists.{every}
 use Rattle.names.specs.Names.{spellings, lookup, meaning, ending}
 use Rattle.store.specs.Rows.{Row, nodeOver, Span, span, closeIn}
+use Rattle.token.specs.Examples.{allBad}
 use Rattle.token_stream.specs.Lex.{markTk, numberTk, runTk, flush, push, lexByte, lexRun, lex}
 use Rattle.utf8.specs.Utf8.{table, fits, firstFit, charWidth, walk, firstIll}
 use Rattle.grammar.specs.Asks.{bind, run}
@@ -94,12 +95,12 @@ edges =
     ∷ reads 40 9 (bytes "MULTIPOLYGON ZM(((1 2 3 4)),EMPTY)")
     (nodes (nodeOver kindMultiPolygon dimXYZM 2 (nodeOver kindPolygon dimXYZM 1 (leaf kindLineString dimXYZM 1) ++ leaf kindPolygon dimXYZM 0)) (span 18 1 (bytes "1") ∷ span 20 1 (bytes "2") ∷ span 22 1 (bytes "3") ∷ span 24 1 (bytes "4") ∷ []))
     ∷ reads 40 9 (kyo ++ bytes "(1 2)") (refused (refusal 7 0))
-    ∷ reads 40 9 (bytes "+x(1 2)") (refused (refusal 6 0))
+    ∷ reads 40 9 (bytes "+x(1 2)") (refused (refusal 29 1))
     ∷ reads 40 9 (0xE4 ∷ 0xBA ∷ []) (refused (refusal 2 0))
     ∷ reads 40 9 (bytes "GEOMETRYCOLLECTION(1)") (refused (refusal 18 19))
     ∷ reads 40 9 (bytes "POINT foo(1 2)") (refused (refusal 11 6))
     ∷ reads 40 9 (bytes "GEOMETRYCOLLECTION(POINT foo)") (refused (refusal 13 25))
-    ∷ reads 40 9 (bytes "GEOMETRYCOLLECTION(POINT 4x)") (refused (refusal 6 25))
+    ∷ reads 40 9 (bytes "GEOMETRYCOLLECTION(POINT 4x)") (refused (refusal 29 26))
     ∷ reads 40 9 (bytes "GEOMETRYCOLLECTION(POINT \0)") (refused (refusal 13 25))
     ∷ reads 40 9 (bytes "GEOMETRYCOLLECTION(POINTZ \0)") (refused (refusal 12 26))
     ∷ reads 40 9 (bytes "POINT Z(1 2 x)") (refused (refusal 16 12))
@@ -113,7 +114,7 @@ edges =
 
 -- all that a reading computes with
 unfoldable pub all : ℕ
-unfolding begins afterOne afterAll isNil sameWord isNamed isDigits isExponent isDecimal isUnsigned isLexeme every flatMap spellings lookup meaning ending closeIn markTk numberTk runTk flush push lexByte lexRun lex table fits firstFit charWidth walk firstIll bind run andThen items closing number thenNumber ifAsked coord pointBody opened opening opener header childHead rootHead lineBody parens lineIn lineOf linesBody polygonIn polygonOf polygonsBody pointIn barePoint pointOf pointsBody multi simple geometryBy childOf collection geometry root reading All
+unfolding allBad begins afterOne afterAll isNil sameWord isNamed isDigits isExponent isDecimal isUnsigned isLexeme every flatMap spellings lookup meaning ending closeIn markTk numberTk runTk flush push lexByte lexRun lex table fits firstFit charWidth walk firstIll bind run andThen items closing number thenNumber ifAsked coord pointBody opened opening opener header childHead rootHead lineBody parens lineIn lineOf linesBody polygonIn polygonOf polygonsBody pointIn barePoint pointOf pointsBody multi simple geometryBy childOf collection geometry root reading All
 all = 0
 
 -- and what its writing again does besides

@@ -141,7 +141,7 @@ byName p (Name.Joined k d) = opener k d
 unfoldable pub childHead : P Head
 childHead = ask λ t. cond (eqb (sortOf t) sortWord) (byName (placeOf t) (meaning (textOf t))) (ret (wrong (refusalAt noChild t)))
 
--- [Wkt::from_tokens] "Root: a word. A non-ASCII word is refused 7; a bad number 6; no token or any other token 8."
+-- [Wkt::from_tokens] "Root: a word. A non-ASCII word is refused 7; a bad number [28 or 29]; no token or any other token 8."
 unfoldable pub rootHead : P Head
 rootHead = ask λ t.
     cond (eqb (sortOf t) sortWord)

@@ -3,6 +3,8 @@ pub mod Tokens
 pub mod Grammar
 pub mod Reading
 pub mod Answers
+pub mod Former
+pub mod FormerExamples
 pub mod LastToken
 pub mod Edges
 pub mod Lasts

@@ -66,7 +66,7 @@ tkText (word-tk w) = w
 abbrev pub textOf : Tok → List ℕ
 textOf (tok p k) = tkText k
 
--- the refusal at a token that was taken and is not the one asked for. "A bad number that is taken gives 6."
+-- the refusal at a token that was taken and is not the one asked for: a bad number has its own. "Refusals: 28 and 29 in the place of 6." (document 02)
 abbrev pub tkRefusal : ℕ → ℕ → Tk → Refusal
 tkRefusal e p none-tk = record { number = e; place = p }
 tkRefusal e p (bad-tk r) = r

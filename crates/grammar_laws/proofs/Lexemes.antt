@@ -33,7 +33,7 @@ isNumberByte b = isNumberlike b || isLetter b
 digit-byte : (b : ℕ) → isDigit b ≡ true → isNumberByte b ≡ true
 digit-byte b e = rw e
 
-or-right : (a b : Bool) → b ≡ true → (a || b) ≡ true
+pub or-right : (a b : Bool) → b ≡ true → (a || b) ≡ true
 or-right true b e = refl
 or-right false b e = e
 

@@ -2,6 +2,7 @@ pub mod Asks
 pub mod Loops
 pub mod Tokens
 pub mod Fuel
+pub mod Former
 pub mod WellRead
 pub mod Unread
 pub mod After

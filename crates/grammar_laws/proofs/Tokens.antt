@@ -1,22 +1,29 @@
 -- The tokens of a text lie in it: a token but "no token" starts before the end, a number's text is a lexeme there, a bad number is refused there.
 -- Assumes nothing.
 use mathlib.Core.Path.{_≡_, refl, ap, sym, _∙_}
-use mathlib.Core.Bool.{true}
+use mathlib.Core.Bool.{true, _||_, _&&_}
 use mathlib.Core.List.{List, [], _∷_, _++_}
 use Prim.Native.Nat.{ℕ, suc, _+_, _-_, _≤_, _<_}
 use native.Mathlib.Omega.{arith}
-use lib.Dec.{eqb}
+use lib.Dec.{eqb, leb}
 use lib.ListN.{length, drop, length-append, length-drop}
 use lib.Seq.{drop-drop, take-append-seam}
 use Rattle.scan.specs.Bytes.{nul, parenOpen, parenClose, plus, isBlank, isStop, isNumberlike}
 use Rattle.number.specs.Lexeme.{isLexeme}
-use Rattle.token.specs.Tokens.{badNumberAt}
+use Rattle.refusals.specs.Refusals.{textTooLong, illFormedUtf8, nonAsciiRoot, noChild}
+use Rattle.token.specs.Tokens.{isBadNumber, wrongNumberAt}
+use Rattle.token.proofs.BadNumbers.{wrong-in}
 use Rattle.token_stream.specs.Stream.{Tk, open-tk, close-tk, comma-tk, none-tk, bad-tk, word-tk, number-tk, Tok, tok, Str, end, then, hd, tl}
 use Rattle.token_stream.specs.Lex.{markTk, numberTk, runTk, Lexed, lexed, flush, push, lexByte, lexRun, lex}
 use Rattle.lists.proofs.Cases.{either}
 use Rattle.grammar.specs.Tokens.{sortNone, sortNumber, sortOf, placeOf, startOf, textOf, refusalAt}
 use Rattle.grammar.specs.Answers.{isRefusal, Refused}
 use Rattle.tree.specs.TreeIn.{NumberIn}
+use Rattle.grammar_laws.proofs.Lexemes.{or-right}
+
+-- the two numbers of a bad number are of the table
+bad-refusal : (e : ℕ) → isBadNumber e ≡ true → isRefusal e ≡ true
+bad-refusal e w = or-right (eqb e textTooLong || eqb e illFormedUtf8 || leb nonAsciiRoot e && leb e noChild) (isBadNumber e) w
 
 module _ (text : List ℕ) where
   -- a token at p
@@ -88,22 +95,25 @@ module _ (text : List ℕ) where
   before-end : (p b : ℕ) (bs : List ℕ) → drop p text ≡ b ∷ bs → p < length text
   before-end p b bs e = let l : length text - p ≡ suc (length bs) = sym (length-drop p text) ∙ ap length e in omega arith
 
-  numberTk-in : (p q : ℕ) (b : ℕ) (bs x rest : List ℕ) → p < length text → drop q text ≡ x ++ rest → q ≤ length text → TkIn p (numberTk (badNumberAt p (b ∷ bs)) q x)
+  numberTk-in : (p q b : ℕ) (bs x rest : List ℕ) → p + length (b ∷ bs) ≤ length text → drop q text ≡ x ++ rest → q ≤ length text → TkIn p (numberTk (wrongNumberAt p (b ∷ bs)) q x)
   unfolding numberTk
   numberTk-in p q b bs x rest h e l =
       let z : length text - q ≡ length x + length rest = sym (length-drop q text) ∙ ap length e ∙ length-append x rest in
+      let w = wrong-in p (b ∷ bs) in
       either (isLexeme x) (TkIn p) _ _
-      (λ g. (h, record { inside = omega arith; bytes = rw e (take-append-seam x rest); lexeme = g }))
-      λ g. (h, record { number = refl; place = omega arith })
+      (λ g. (omega arith, record { inside = omega arith; bytes = rw e (take-append-seam x rest); lexeme = g }))
+      λ g. (omega arith, record { number = bad-refusal (wrongNumberAt p (b ∷ bs) .number) (w .0); place = omega (arith, w .1) })
 
   runTk-in : (p b : ℕ) (bs rest : List ℕ) → drop p text ≡ b ∷ (bs ++ rest) → TkIn p (runTk p b bs)
   unfolding runTk
   runTk-in p b bs rest e =
+      let z : length text - p ≡ suc (length bs + length rest) = sym (length-drop p text) ∙ ap length e ∙ ap suc (length-append bs rest) in
       let h : p < length text = before-end p b (bs ++ rest) e in
+      let l : p + length (b ∷ bs) ≤ length text = omega arith in
       either (isNumberlike b) (TkIn p) _ _
       (λ n. either (eqb b plus) (TkIn p) _ _
-      (λ s. numberTk-in p (p + 1) b bs bs rest h (next p b (bs ++ rest) e) (omega arith))
-      λ s. numberTk-in p p b bs (b ∷ bs) rest h e (omega arith))
+      (λ s. numberTk-in p (p + 1) b bs bs rest l (next p b (bs ++ rest) e) (omega arith))
+      λ s. numberTk-in p p b bs (b ∷ bs) rest l e (omega arith))
       λ n. h
 
   LexedIn : List ℕ → Lexed → Type 0

@@ -12,6 +12,7 @@ use Rattle.number.specs.Lexeme.{isNamed, isDigits, isExponent, isDecimal, isUns
 use Rattle.names.specs.Names.{spellings, lookup, meaning, ending}
 use Rattle.token.specs.declared.Token.{Token}
 use Rattle.tokenizer.specs.declared.Held.{Held}
+use Rattle.token.specs.Examples.{allBad}
 use Rattle.token.specs.Tokens.{numberAt, wordAt, startAt, tokenAt, readAt}
 use Rattle.tokenizer.specs.Tokens.{takeHeld, cursorAt}
 use Rattle.grammar.specs.Tokens.{sortNone, sortBad, sortOpen, sortClose, sortComma, sortNumber, sortWord}
@@ -23,7 +24,7 @@ use Rattle.headings.specs.declared.Head.the-variants.{Opens, Empty, Wron
 use Rattle.headings.specs.Heads.{headOf, headEnd, RanAt, ranAt, runAt, emptyAt}
 
 all : ℕ
-unfolding run firstNot afterOneAt numberAt wordAt startAt tokenAt readAt takeHeld isNamed isDigits isExponent isDecimal isUnsigned isLexeme begins afterOne afterAll isNil sameWord every flatMap spellings lookup meaning ending opening opener header childHead rootHead runAt emptyAt
+unfolding allBad run firstNot afterOneAt numberAt wordAt startAt tokenAt readAt takeHeld isNamed isDigits isExponent isDecimal isUnsigned isLexeme begins afterOne afterAll isNil sameWord every flatMap spellings lookup meaning ending opening opener header childHead rootHead runAt emptyAt
 all = 0
 
 root : List ℕ → RanAt spec.Head
@@ -43,12 +44,12 @@ unfolding all child
 looked = (refl, refl, refl)
 
 -- 12 has taken the token: after a name, after a dimension, and after a joined name, where no header is looked for
-unopened : (child (bytes "POINT )") ≡ ranAt (wrong (refusal 12 6)) (cursorAt 7)) × (child (bytes "POINT Z foo)") ≡ ranAt (wrong (refusal 12 8)) (cursorAt 11)) × (child (bytes "POINTZ Z(") ≡ ranAt (wrong (refusal 12 7)) (cursorAt 8)) × (child (bytes "POINTZ 4x)") ≡ ranAt (wrong (refusal 6 7)) (cursorAt 9))
+unopened : (child (bytes "POINT )") ≡ ranAt (wrong (refusal 12 6)) (cursorAt 7)) × (child (bytes "POINT Z foo)") ≡ ranAt (wrong (refusal 12 8)) (cursorAt 11)) × (child (bytes "POINTZ Z(") ≡ ranAt (wrong (refusal 12 7)) (cursorAt 8)) × (child (bytes "POINTZ 4x)") ≡ ranAt (wrong (refusal 29 8)) (cursorAt 9))
 unfolding all child
 unopened = (refl, refl, refl, refl)
 
--- what is no name: 9, and of the root 7, 8 and 6, of a child 18 and 6, with nothing held
-unnamed : (root (bytes "FOO (") ≡ ranAt (wrong (refusal 9 0)) (cursorAt 4)) × (root (0xE4 ∷ bytes "(") ≡ ranAt (wrong (refusal 7 0)) (cursorAt 1)) × (root (bytes "(") ≡ ranAt (wrong (refusal 8 0)) (cursorAt 1)) × (root (bytes "4x") ≡ ranAt (wrong (refusal 6 0)) (cursorAt 2)) × (child (bytes ")") ≡ ranAt (wrong (refusal 18 0)) (cursorAt 1)) × (child (bytes "4x") ≡ ranAt (wrong (refusal 6 0)) (cursorAt 2))
+-- what is no name: 9, and of the root 7, 8 and 29, of a child 18 and 28, with nothing held
+unnamed : (root (bytes "FOO (") ≡ ranAt (wrong (refusal 9 0)) (cursorAt 4)) × (root (0xE4 ∷ bytes "(") ≡ ranAt (wrong (refusal 7 0)) (cursorAt 1)) × (root (bytes "(") ≡ ranAt (wrong (refusal 8 0)) (cursorAt 1)) × (root (bytes "4x") ≡ ranAt (wrong (refusal 29 1)) (cursorAt 2)) × (child (bytes ")") ≡ ranAt (wrong (refusal 18 0)) (cursorAt 1)) × (child (bytes "+ ") ≡ ranAt (wrong (refusal 28 0)) (cursorAt 2))
 unfolding all root child
 unnamed = (refl, refl, refl, refl, refl, refl)
 
@@ -60,11 +61,11 @@ means = (refl, refl, refl)
 behind : (headEnd (Opens 1 2 3 4) ≡ cursorAt 4) × (headEnd (Empty 1 2 3 4) ≡ cursorAt 4) × (headEnd (Wrong (refusal 11 3) (record { at = 4; held = Held.NoToken 5 })) ≡ record { at = 4; held = Held.NoToken 5 })
 behind = (refl, refl, refl)
 
--- a token of each sort at 1, behind it 7, and the text EMPTY of whatever was taken: the word alone is EMPTY, a bad number 6
+-- a token of each sort at 1, behind it 7, and the text EMPTY of whatever was taken: the word alone is EMPTY, and a bad number its own refusal: where no byte of one stands nothing is left
 instead : ℕ → Head
 instead sort = emptyAt (bytes "x EMPTY") 1 2 (taken sort 1 2 5 7)
 
-sorted : (instead sortWord ≡ Empty 1 2 1 7) × (instead sortBad ≡ Wrong (refusal 6 1) (cursorAt 7)) × (instead sortNone ≡ Wrong (refusal 12 1) (cursorAt 7)) × (instead sortOpen ≡ Wrong (refusal 12 1) (cursorAt 7)) × (instead sortClose ≡ Wrong (refusal 12 1) (cursorAt 7)) × (instead sortComma ≡ Wrong (refusal 12 1) (cursorAt 7)) × (instead sortNumber ≡ Wrong (refusal 12 1) (cursorAt 7))
+sorted : (instead sortWord ≡ Empty 1 2 1 7) × (instead sortBad ≡ Wrong (refusal 28 1) (cursorAt 7)) × (instead sortNone ≡ Wrong (refusal 12 1) (cursorAt 7)) × (instead sortOpen ≡ Wrong (refusal 12 1) (cursorAt 7)) × (instead sortClose ≡ Wrong (refusal 12 1) (cursorAt 7)) × (instead sortComma ≡ Wrong (refusal 12 1) (cursorAt 7)) × (instead sortNumber ≡ Wrong (refusal 12 1) (cursorAt 7))
 unfolding all instead
 sorted = (refl, refl, refl, refl, refl, refl, refl)
 

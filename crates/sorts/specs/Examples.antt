@@ -9,6 +9,7 @@ use Rattle.words.specs.Words.{sameWord}
 use Rattle.number.specs.Lexeme.{isNamed, isDigits, isExponent, isDecimal, isUnsigned, isLexeme}
 use Rattle.token.specs.declared.Token.{Token}
 use Rattle.tokenizer.specs.declared.Held.{Held}
+use Rattle.token.specs.Examples.{allBad}
 use Rattle.token.specs.Tokens.{numberAt, wordAt, startAt, tokenAt, readAt}
 use Rattle.tokenizer.specs.Tokens.{takeHeld, cursorAt}
 use Rattle.grammar.specs.Tokens.{sortNone, sortBad, sortOpen, sortClose, sortComma, sortNumber, sortWord}
@@ -20,7 +21,7 @@ text : List ℕ
 text = bytes "ab +4(),4x\0"
 
 all : ℕ
-unfolding text run firstNot afterOneAt numberAt wordAt startAt tokenAt readAt takeHeld isNamed isDigits isExponent isDecimal isUnsigned isLexeme begins afterOne afterAll isNil sameWord clipped told takenAt
+unfolding allBad text run firstNot afterOneAt numberAt wordAt startAt tokenAt readAt takeHeld isNamed isDigits isExponent isDecimal isUnsigned isLexeme begins afterOne afterAll isNil sameWord clipped told takenAt
 all = 0
 
 at : ℕ → Taken
@@ -49,7 +50,7 @@ past : (holding (Held.Is 1 (Token.Word 9 5)) ≡ taken sortWord 1 9 2 9) × (hol
 unfolding all holding
 past = (refl, refl, refl, refl)
 
--- a bad number is 6 where it starts, whatever was asked for, and any other token what was asked for
-refusals : (refusalBy text 13 (at 8) ≡ record { number = 6; place = 8 }) × (refusalBy text 13 (at 7) ≡ record { number = 13; place = 7 }) × (refusalBy text 13 (at 11) ≡ record { number = 13; place = 11 })
+-- a bad number is refused as it goes wrong, whatever was asked for, and any other token what was asked for
+refusals : (refusalBy text 13 (at 8) ≡ record { number = 29; place = 9 }) × (refusalBy text 13 (at 7) ≡ record { number = 13; place = 7 }) × (refusalBy text 13 (at 11) ≡ record { number = 13; place = 11 })
 unfolding all at
 refusals = (refl, refl, refl)

@@ -46,6 +46,6 @@ told text (Found.Is p t) i = toldToken text p t i
 unfoldable pub takenAt : List ℕ → Cursor → Taken
 takenAt text c = told text (takeAt text c .found) (takeAt text c .next .at)
 
--- the refusal at a token that was taken and is not the one asked for, where e is the number. "A bad number that is taken gives 6."
+-- the refusal at a token that was taken and is not the one asked for, where e is the number: a bad number has its own
 abbrev pub refusalBy : List ℕ → ℕ → Taken → Refusal
 refusalBy text e t = cond (eqb (t .sort) sortBad) (badAt text (t .place)) (refusal e (t .place))

@@ -1,12 +1,11 @@
--- What a bad number is refused with: the code's two answers are the definition's; its number is one of two, and its place lies in the text.
+-- What a bad number is refused with: the code's two answers are the definition's; its number is one of two, and its place lies in the number or at its end.
 -- Assumes nothing.
 use mathlib.Core.Path.{_≡_, refl, sym, ap, ap₂, _∙_}
-use mathlib.Core.Bool.{Bool, true, false, cond, _||_}
+use mathlib.Core.Bool.{Bool, true, false, cond}
 use mathlib.Core.List.{List, [], _∷_}
 use Prim.Native.Nat.{ℕ, _+_, _-_, _≤_, _<_}
 use native.Mathlib.Decide.{decLt}
 use native.Mathlib.Omega.{arith}
-use lib.Dec.{eqb}
 use lib.ListN.{length, getD, take, drop, length-drop}
 use lib.Seq.{length-take-le}
 use Rattle.lists.proofs.Cases.{either}
@@ -16,11 +15,10 @@ use Rattle.scan.specs.Runs.{firstNot, afterOneAt}
 use Rattle.scan.proofs.Bytes.{plus-inner}
 use Rattle.scan.proofs.Front.{part-first, part-none}
 use Rattle.scan.proofs.Runs.{past, not-past, scan-one, part-one, one-end, one-not-before}
-use Rattle.refusals.specs.Refusals.{nothingAfterPlus, numberGoesWrong}
 use Rattle.bad_numbers.specs.Openings.{goesWrong}
 use Rattle.bad_numbers.proofs.Openings.{wrong-within}
 use Rattle.token.specs.declared.Refusal.{Refusal}
-use Rattle.token.specs.Tokens.{endOf, textStart, nothingLeft, goneWrong, wrongNumberAt, badAt}
+use Rattle.token.specs.Tokens.{isBadNumber, endOf, textStart, nothingLeft, goneWrong, wrongNumberAt, badAt}
 
 module _ (text : List ℕ) (p : ℕ) where
   same-end : endOf text (textStart text p) ≡ endOf text p
@@ -72,16 +70,21 @@ module _ (text : List ℕ) (p : ℕ) where
           let l : length (part text start end) ≡ end - start = length-take-le (end - start) (drop start text) (omega (arith, length-drop start text, not-past isInner text start)) in
           omega (arith, w, wrong-within (part text start end), e, not-past isInner text start)
 
--- one of the two numbers that stand in the place of 6
-abbrev pub isBadNumber : ℕ → Bool
-isBadNumber e = eqb e nothingAfterPlus || eqb e numberGoesWrong
+-- ---- what the crates above know of it
+-- a bad number's refusal, by its own bytes
+pub bad-is : (text : List ℕ) (p : ℕ) → badAt text p ≡ wrongNumberAt p (part text p (endOf text p))
+unfolding badAt
+bad-is text p = refl
 
-abbrev BadIn : List ℕ → Refusal → Type 0
-BadIn text r = (isBadNumber (r .number) ≡ true) × (r .place ≤ length text)
+-- it is one of the two, at the number's first byte or a later one, or at its end
+abbrev WrongIn : ℕ → List ℕ → Refusal → Type 0
+WrongIn p run r = (isBadNumber (r .number) ≡ true) × (r .place ≤ p + length run)
 
-pub bad-in : (text : List ℕ) (p : ℕ) → p ≤ length text → BadIn text (badAt text p)
-bad-in text p h = go (decLt (textStart text p) (endOf text (textStart text p)))
+pub wrong-in : (p : ℕ) (run : List ℕ) → WrongIn p run (wrongNumberAt p run)
+unfolding wrongNumberAt afterOne isNil afterOneAt
+wrong-in p [] = (refl, omega arith)
+wrong-in p (b ∷ l) = go (isPlus b)
   where
-    go : Dec (textStart text p < endOf text (textStart text p)) → BadIn text (badAt text p)
-    go (yes l) = rw (← gone-is text p _ _ refl refl l _ refl) (refl, gone-within text p _ _ refl refl l _ refl)
-    go (no l) = rw (← nothing-is text p _ _ refl refl (omega arith)) (refl, h)
+    go : (x : Bool) → WrongIn p (b ∷ l) (cond (isNil (cond x l (b ∷ l))) (nothingLeft p) (goneWrong (cond x (0 + 1) 0 + p + goesWrong (cond x l (b ∷ l)))))
+    go true = either (isNil l) (WrongIn p (b ∷ l)) _ _ (λ e. (refl, omega arith)) λ e. (refl, omega (arith, wrong-within l))
+    go false = (refl, omega (arith, wrong-within (b ∷ l)))

@@ -27,7 +27,8 @@ all : ℕ
 unfolding text run firstNot afterOneAt numberAt wordAt startAt tokenAt readAt isNamed isDigits isExponent isDecimal isUnsigned isLexeme begins afterOne afterAll isNil sameWord
 all = 0
 
-allBad : ℕ
+-- all that a bad number's refusal computes with
+unfoldable pub allBad : ℕ
 unfolding run firstNot afterOneAt begins afterOne afterAll isNil startsWord isDigits isExponent isDecimal opensDecimal opensWord opens longestUpTo wrongNumberAt badAt
 allBad = 0
 

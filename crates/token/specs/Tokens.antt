@@ -1,6 +1,6 @@
 -- What a demand for a token finds (document 01, "Tokens").
 use Prim.Native.Nat.{ℕ, _+_, _-_}
-use mathlib.Core.Bool.{Bool, true, false, cond}
+use mathlib.Core.Bool.{Bool, true, false, cond, _||_}
 use mathlib.Core.List.{List}
 use lib.ListN.{length, getD}
 use lib.Dec.{eqb, leb}
@@ -27,6 +27,10 @@ endOf text p = firstNot isInner text p
 -- start)". It is given no more, and stands here for what is said of the change (grammar/specs/Former).
 abbrev pub badNumberAt : ℕ → Refusal
 badNumberAt p = record { number = badNumber; place = p }
+
+-- "Refusals: 28 and 29 in the place of 6." (document 02)
+abbrev pub isBadNumber : ℕ → Bool
+isBadNumber e = eqb e nothingAfterPlus || eqb e numberGoesWrong
 
 abbrev pub nothingLeft : ℕ → Refusal
 nothingLeft p = record { number = nothingAfterPlus; place = p }

@@ -1,6 +1,6 @@
 -- The stream that the code reads is the lexing of the text, byte by byte: `toks text i ≡ lex i (drop i text)`.
 -- Assumes nothing.
-use mathlib.Core.Path.{_≡_, refl, sym, ap, _∙_}
+use mathlib.Core.Path.{_≡_, refl, sym, ap, ap₂, _∙_}
 use mathlib.Core.Bool.{Bool, true, false, cond, false≢true}
 use mathlib.Core.List.{List, [], _∷_}
 use mathlib.Core.Logic.{_⊎_, inl, inr}
@@ -21,7 +21,8 @@ use Rattle.number.specs.Lexeme.{isLexeme, upToStop}
 use Rattle.token.specs.declared.Found.{Found}
 use Rattle.token.specs.declared.Read.{Read}
 use Rattle.token.specs.declared.Refusal.{Refusal}
-use Rattle.token.specs.Tokens.{badNumberAt, badAt, endOf, afterBlank, textStart, numberOr, numberAt, wordAt, startAt, tokenAt, readAt}
+use Rattle.token.specs.Tokens.{wrongNumberAt, badAt, endOf, afterBlank, textStart, numberOr, numberAt, wordAt, startAt, tokenAt, readAt}
+use Rattle.token.proofs.BadNumbers.{bad-is}
 use Rattle.token_stream.specs.Stream.{Tk, open-tk, close-tk, comma-tk, none-tk, bad-tk, word-tk, number-tk, tok, Str, end, then, cons, tokIn, toksBy, toks}
 use Rattle.token_stream.specs.Lex.{markTk, numberTk, runTk, Lexed, lexed, flush, push, lexByte, lexRun, lex}
 use Rattle.token_stream.proofs.Stream.{read-on, read-within, none-end, plus-end}
@@ -213,14 +214,17 @@ module _ (text : List ℕ) where
         all : c ∷ rest ≡ part text p (endOf text p)
         all = rw w at (whole (rw (w, t)))
 
+        bad : wrongNumberAt p (c ∷ rest) ≡ badAt text p
+        bad = ap (wrongNumberAt p) all ∙ sym (bad-is text p)
+
         go : (x : Bool) → eqb c 43 ≡ x → L p ≡ cons (tokIn text (numberAt text p .found)) (L (numberAt text p .at))
         go true e =
-            let f : runTk p c rest ≡ numberTk (badNumberAt p (c ∷ rest)) (p + 1) rest = rw (n, e) in
-            let g : runTk p c rest ≡ numberTk (badAt text p) (p + 1) rest = f ∙ ap (λ (l : List ℕ). numberTk (badNumberAt p l) (p + 1) rest) all in
+            let f : runTk p c rest ≡ numberTk (wrongNumberAt p (c ∷ rest)) (p + 1) rest = rw (n, e) in
+            let g : runTk p c rest ≡ numberTk (badAt text p) (p + 1) rest = f ∙ ap (λ (r : Refusal). numberTk r (p + 1) rest) bad in
             ran ∙ ap (λ (k : Tk). then (tok p k) (L (endOf text p))) g ∙ from (p + 1) (one-on isPlus text p (rw w e))
         go false e =
-            let f : runTk p c rest ≡ numberTk (badNumberAt p (c ∷ rest)) p (c ∷ rest) = rw (n, e) in
-            let g : runTk p c rest ≡ numberTk (badAt text p) p (part text p (endOf text p)) = f ∙ ap (λ (l : List ℕ). numberTk (badNumberAt p l) p l) all in
+            let f : runTk p c rest ≡ numberTk (wrongNumberAt p (c ∷ rest)) p (c ∷ rest) = rw (n, e) in
+            let g : runTk p c rest ≡ numberTk (badAt text p) p (part text p (endOf text p)) = f ∙ ap₂ (λ (r : Refusal) (l : List ℕ). numberTk r p l) bad all in
             ran ∙ ap (λ (k : Tk). then (tok p k) (L (endOf text p))) g ∙ from p (one-off isPlus text p (rw w e))
 
     word-is : (c : ℕ) → getD text p 0 ≡ c → isBlank c ≡ false → isStop c ≡ false → isNumberlike c ≡ false → L p ≡ cons (tokIn text (wordAt text p .found)) (L (wordAt text p .at))

@@ -2,3 +2,4 @@ pub mod Stream
 pub mod Sound
 pub mod Bridge
 pub mod Marks
+pub mod Each

@@ -7,7 +7,7 @@ use lib.Dec.{eqb}
 use Rattle.scan.specs.Bytes.{nul, parenOpen, parenClose, plus, isBlank, isStop, isNumberlike}
 use Rattle.number.specs.Lexeme.{isLexeme}
 use Rattle.token.specs.declared.Refusal.{Refusal}
-use Rattle.token.specs.Tokens.{badNumberAt}
+use Rattle.token.specs.Tokens.{wrongNumberAt}
 use Rattle.token_stream.specs.Stream.{Tk, open-tk, close-tk, comma-tk, none-tk, bad-tk, word-tk, number-tk, tok, Str, end, then}
 
 unfoldable pub markTk : ℕ → Tk
@@ -21,7 +21,7 @@ numberTk r q x = cond (isLexeme x) (number-tk q x) (bad-tk r)
 unfoldable pub runTk : ℕ → ℕ → List ℕ → Tk
 runTk p b bs =
     cond (isNumberlike b)
-    (cond (eqb b plus) (numberTk (badNumberAt p (b ∷ bs)) (p + 1) bs) (numberTk (badNumberAt p (b ∷ bs)) p (b ∷ bs)))
+    (cond (eqb b plus) (numberTk (wrongNumberAt p (b ∷ bs)) (p + 1) bs) (numberTk (wrongNumberAt p (b ∷ bs)) p (b ∷ bs)))
     (word-tk (b ∷ bs))
 
 -- the run of inner bytes that a text begins with, and the tokens after it
