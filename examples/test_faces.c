@@ -108,6 +108,35 @@ static void test_refusals(void)
     expect(is(answer, DOORHOLLOW_NO_ROOT, DOORHOLLOW_TEXT_LIMIT, 0, 0), "read: blanks only");
 }
 
+/* A number that goes wrong: the refusal, its place, and what was expected there. */
+static void test_number(const char *text, uint64_t number, uint64_t place, uint32_t expected)
+{
+    uint32_t nodes[6], numbers[8];
+    uint64_t answer[DOORHOLLOW_ANSWER_PLACES];
+
+    doorhollow_read(bytes(text), strlen(text), nodes, 6, numbers, 8, answer);
+    expect(is(answer, number, place, 0, 0), text);
+    expect(doorhollow_expected(bytes(text), strlen(text), (uint32_t)answer[0], (size_t)answer[1]) == expected, text);
+}
+
+static void test_numbers(void)
+{
+    test_number("POINT(1 x)", DOORHOLLOW_NO_Y, 8, DOORHOLLOW_NO_EXPECTATION);
+    test_number("POINT(1 +)", DOORHOLLOW_NOTHING_AFTER_PLUS, 8, DOORHOLLOW_EXPECTED_NUMBER_OR_WORD);
+    test_number("POINT(1 2 +)", DOORHOLLOW_NOTHING_AFTER_PLUS, 10, DOORHOLLOW_EXPECTED_NUMBER_OR_WORD);
+    test_number("POINT(1 2 ++)", DOORHOLLOW_NUMBER_GOES_WRONG, 12, DOORHOLLOW_EXPECTED_NUMBER_OR_WORD);
+    test_number("POINT(1 2 +q)", DOORHOLLOW_NUMBER_GOES_WRONG, 11, DOORHOLLOW_EXPECTED_NUMBER_OR_WORD);
+    test_number("POINT(1 2 +infi)", DOORHOLLOW_NUMBER_GOES_WRONG, 15, DOORHOLLOW_EXPECTED_REST_OF_WORD);
+    test_number("POINT(1 2 4x)", DOORHOLLOW_NUMBER_GOES_WRONG, 11, DOORHOLLOW_EXPECTED_NOTHING_MORE);
+    test_number("POINT(1 2 1e)", DOORHOLLOW_NUMBER_GOES_WRONG, 12, DOORHOLLOW_EXPECTED_DIGIT_OR_SIGN);
+    test_number("POINT(1 2 1e+)", DOORHOLLOW_NUMBER_GOES_WRONG, 13, DOORHOLLOW_EXPECTED_A_DIGIT);
+    test_number("POINT(1 2 .)", DOORHOLLOW_NUMBER_GOES_WRONG, 11, DOORHOLLOW_EXPECTED_A_DIGIT);
+    test_number("POINT(1 2 --1)", DOORHOLLOW_NUMBER_GOES_WRONG, 11, DOORHOLLOW_EXPECTED_NUMBER_OR_WORD);
+    test_number("POINT(1 2 -infx)", DOORHOLLOW_NUMBER_GOES_WRONG, 14, DOORHOLLOW_EXPECTED_NOTHING_MORE);
+    expect(doorhollow_expected(bytes(""), 0, DOORHOLLOW_NUMBER_GOES_WRONG, 9) == DOORHOLLOW_EXPECTED_NUMBER_OR_WORD, "expected: any place may be asked for");
+    expect(doorhollow_expected(bytes("4x"), 2, DOORHOLLOW_OK, 1) == DOORHOLLOW_NO_EXPECTATION, "expected: of no refusal");
+}
+
 /* How many rows are enough, and a text of 27 bytes that is lent so many. */
 static void test_rooms(void)
 {
@@ -187,6 +216,7 @@ int main(void)
 {
     test_store();
     test_refusals();
+    test_numbers();
     test_rooms();
     test_stored();
     test_strict();

@@ -74,7 +74,7 @@ extern "C" {
 #define DOORHOLLOW_XYM 2
 #define DOORHOLLOW_XYZM 3
 
-/* The refusals. Beside each stands its message, for 6 to 21 that of the Rust crate wkt; 19 names the prefix after it. */
+/* The refusals. Beside each stands its message, for 7 to 21, 28 and 29 that of the Rust crate wkt; 19 names the prefix after it. */
 #define DOORHOLLOW_OK 0
 /* tools/refusals: from here on */
 #define DOORHOLLOW_TEXT_TOO_LONG 1 /* More bytes than a text (65,535) or a stored tree (1,048,576) may have */
@@ -82,7 +82,7 @@ extern "C" {
 #define DOORHOLLOW_NO_NODE_ROW 3 /* No room for another node */
 #define DOORHOLLOW_NO_NUMBER_ROW 4 /* No room for another number */
 #define DOORHOLLOW_TOO_DEEP 5 /* More than 32 collections are open */
-#define DOORHOLLOW_BAD_NUMBER 6 /* Unable to parse input number as the desired output type */
+/* 6 is no longer given. */
 #define DOORHOLLOW_NON_ASCII_ROOT 7 /* Encountered non-ascii word */
 #define DOORHOLLOW_NO_ROOT 8 /* Invalid WKT format */
 #define DOORHOLLOW_UNKNOWN_NAME 9 /* Invalid type encountered */
@@ -106,6 +106,14 @@ extern "C" {
 #define DOORHOLLOW_DOES_NOT_FIT 27 /* A count, a number's text or the whole is too large for the stored form */
 #define DOORHOLLOW_NOTHING_AFTER_PLUS 28 /* Unable to parse input number as the desired output type */
 #define DOORHOLLOW_NUMBER_GOES_WRONG 29 /* Unable to parse input number as the desired output type */
+
+/* What was expected where a number goes wrong: the answers of doorhollow_expected. */
+#define DOORHOLLOW_NO_EXPECTATION 0
+#define DOORHOLLOW_EXPECTED_NOTHING_MORE 1 /* nothing more was expected */
+#define DOORHOLLOW_EXPECTED_A_DIGIT 2 /* a digit was expected */
+#define DOORHOLLOW_EXPECTED_DIGIT_OR_SIGN 3 /* a digit or a sign was expected after e */
+#define DOORHOLLOW_EXPECTED_NUMBER_OR_WORD 4 /* a digit, a point, inf, infinity or nan was expected after the sign */
+#define DOORHOLLOW_EXPECTED_REST_OF_WORD 5 /* inf, infinity or nan was expected after the sign */
 /* tools/refusals: up to here */
 
 /*
@@ -122,12 +130,26 @@ size_t doorhollow_enough_rows(size_t text_length);
  *
  * answer: number, place, count of node rows, count of number rows.
  * Every place of both slices after the used rows is 0, and after a refusal
- * every place. Refusals 1 to 18.
+ * every place. Refusals 1 to 5, 7 to 18, 28 and 29.
+ *
+ * 28 and 29 are those of a number. Of `+5` the plus is dropped: where nothing
+ * is left then, 28 is answered with the place of that plus. Else 29, with the
+ * place of the first byte at which no number's text can go on, or of the
+ * token's end where more was needed: 9 in `POINT(1 4x)`, 10 in `POINT(1 1e)`.
  */
 void doorhollow_read(const uint8_t *text, size_t text_length,
                      uint32_t *nodes, size_t node_places,
                      uint32_t *numbers, size_t number_places,
                      uint64_t answer[DOORHOLLOW_ANSWER_PLACES]);
+
+/*
+ * What was expected where a text was refused: number and place are those of the
+ * answer. For 28 and 29 one of DOORHOLLOW_EXPECTED_.., whose words stand beside
+ * it; for any other number DOORHOLLOW_NO_EXPECTATION. Of `POINT(1 1e)`, refused
+ * 29 at 10, it is DOORHOLLOW_EXPECTED_DIGIT_OR_SIGN.
+ */
+uint32_t doorhollow_expected(const uint8_t *text, size_t text_length,
+                             uint32_t number, size_t place);
 
 /*
  * Writes the canonical text of a store, which is lent with its used rows only:

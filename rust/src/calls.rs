@@ -69,6 +69,8 @@ extern "C" {
     );
 
     fn doorhollow_infer_type(text: *const u8, text_length: usize, answer: *mut Answer);
+
+    fn doorhollow_expected(text: *const u8, text_length: usize, number: u32, place: usize) -> u32;
 }
 
 // The number and the place stand in front of every answer but that of the strict check, which has no place.
@@ -225,4 +227,10 @@ pub(crate) fn infer_type(text: &[u8]) -> Result<(Kind, Dimension), Refusal> {
             Dimension::from_number(answer[3]).expect("an accepted answer has a dimension");
         (kind, dimension)
     })
+}
+
+/// The number of what was expected where a text was refused, or 0.
+pub(crate) fn expected(text: &[u8], number: u32, place: usize) -> u32 {
+    // SAFETY: pointer and length are a slice's, and a number comes out.
+    unsafe { doorhollow_expected(text.as_ptr(), text.len(), number, place) }
 }

@@ -18,6 +18,7 @@
 #![warn(missing_docs)]
 
 mod calls;
+mod expectations;
 mod explain;
 mod refusal;
 pub mod refusals;
@@ -27,6 +28,7 @@ mod tree;
 pub use calls::{
     enough_rows, strict_rows, write_rows, write_stored_rows, NODE_WIDTH, NUMBER_WIDTH,
 };
+pub use expectations::Expected;
 pub use refusal::Refusal;
 pub use stored::{load, read_stored, read_stored_into, FileError, Loaded, STORED_LIMIT};
 pub use tree::{Children, Coordinate, Coordinates, Node, Tree, Walk};

@@ -15,9 +15,6 @@ pub const NO_NUMBER_ROW: u32 = 4;
 /// `More than 32 collections are open`
 pub const TOO_DEEP: u32 = 5;
 
-/// `Unable to parse input number as the desired output type`
-pub const BAD_NUMBER: u32 = 6;
-
 /// `Encountered non-ascii word`
 pub const NON_ASCII_ROOT: u32 = 7;
 
@@ -94,7 +91,6 @@ pub(crate) fn message(number: u32) -> &'static str {
         NO_NODE_ROW => "No room for another node",
         NO_NUMBER_ROW => "No room for another number",
         TOO_DEEP => "More than 32 collections are open",
-        BAD_NUMBER => "Unable to parse input number as the desired output type",
         NON_ASCII_ROOT => "Encountered non-ascii word",
         NO_ROOT => "Invalid WKT format",
         UNKNOWN_NAME => "Invalid type encountered",

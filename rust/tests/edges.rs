@@ -34,7 +34,9 @@ fn refusals_and_their_places() {
         ("POINT Z(1 2)", 13, 12),
         ("POINT Z(1 2 x)", 16, 12),
         ("POINT M(1 2 x)", 17, 12),
-        ("POINT(4x)", 6, 6),
+        ("POINT(4x)", 29, 7),
+        ("POINT(4x 2)", 13, 9),
+        ("POINT(1 +)", 28, 8),
     ];
     for (text, number, place) in edges {
         assert_eq!(refused(read(*text)), (*number, *place), "{text:?}");

@@ -9,7 +9,6 @@ fn explained(text: impl AsRef<[u8]>) -> String {
 #[test]
 fn messages_are_those_of_the_crate_wkt() {
     let messages = [
-        (6, "Unable to parse input number as the desired output type"),
         (7, "Encountered non-ascii word"),
         (8, "Invalid WKT format"),
         (9, "Invalid type encountered"),
@@ -27,6 +26,14 @@ fn messages_are_those_of_the_crate_wkt() {
             "Invalid WKT; no whitespace between geometry type and EMPTY.",
         ),
         (21, "Invalid WKT; no '(' character and not EMPTY"),
+        (
+            28,
+            "Unable to parse input number as the desired output type",
+        ),
+        (
+            29,
+            "Unable to parse input number as the desired output type",
+        ),
     ];
     for (number, message) in messages {
         assert_eq!(Refusal { number, place: 0 }.message(), message);
@@ -44,10 +51,16 @@ fn messages_are_those_of_the_crate_wkt() {
 
 #[test]
 fn every_refusal_has_a_message() {
-    let messages: Vec<&str> = (1..=24)
-        .map(|number| Refusal { number, place: 0 }.message())
+    let without: Vec<u32> = (0..=30)
+        .filter(|number| {
+            let refusal = Refusal {
+                number: *number,
+                place: 0,
+            };
+            refusal.message() == "Unknown refusal"
+        })
         .collect();
-    assert!(!messages.contains(&"Unknown refusal"));
+    assert_eq!(without, [0, 6, 30], "6 is no longer given");
 }
 
 #[test]

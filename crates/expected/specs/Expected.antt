@@ -1,4 +1,5 @@
--- What was expected where a number goes wrong, for the words that stand beside its place (request 2026-02: "say what is wrong with the number").
+-- What was expected where a number goes wrong (document 02, 2026-02): "words that say what was expected there (a digit; a digit or sign after `e`;
+-- `inf`, `infinity` or `nan` after a sign; nothing more)".
 use Prim.Native.Nat.{ℕ, zero, suc, _-_}
 use mathlib.Core.Bool.{cond}
 use mathlib.Core.List.{List}
@@ -10,25 +11,7 @@ use Rattle.scan.specs.Runs.{afterOneAt}
 use Rattle.number.specs.Lexeme.{isE, isLexeme}
 use Rattle.bad_numbers.specs.Openings.{opensWord}
 use Rattle.refusals.specs.Refusals.{nothingAfterPlus, numberGoesWrong}
-
--- nothing was asked for; "nothing more"; "a digit"; "a digit or sign after `e`"; behind a sign a number or a word, and the rest of a word: "`inf`, `infinity` or `nan` after a sign"
-abbrev pub noExpectation : ℕ
-noExpectation = 0
-
-abbrev pub nothingMore : ℕ
-nothingMore = 1
-
-abbrev pub aDigit : ℕ
-aDigit = 2
-
-abbrev pub digitOrSign : ℕ
-digitOrSign = 3
-
-abbrev pub numberOrWord : ℕ
-numberOrWord = 4
-
-abbrev pub restOfWord : ℕ
-restOfWord = 5
+use Rattle.expected.specs.Expectations.{noExpectation, nothingMore, aDigit, digitOrSign, numberOrWord, restOfWord}
 
 -- behind x, with which a lexeme begins: nothing more if x is one; a number or a word if there is but a sign; the rest of a word that is begun; behind `e` a digit or
 -- a sign; else, behind a point or an exponent's sign, a digit

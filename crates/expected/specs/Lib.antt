@@ -1,1 +1,3 @@
+pub mod Expectations
 pub mod Expected
+pub mod Examples

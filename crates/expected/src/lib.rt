@@ -1,5 +1,13 @@
-// What was expected where a number goes wrong: for the words that a refusal is told with. The numbers below are those of the table `words.txt`.
+// What was expected where a number goes wrong: for the words that a refusal is told with.
+mod expectations;
+
 use bad_numbers::opens_word;
+pub use expectations::A_DIGIT;
+pub use expectations::DIGIT_OR_SIGN;
+pub use expectations::NO_EXPECTATION;
+pub use expectations::NOTHING_MORE;
+pub use expectations::NUMBER_OR_WORD;
+pub use expectations::REST_OF_WORD;
 use number::is_lexeme;
 use refusals::NOTHING_AFTER_PLUS;
 use refusals::NUMBER_GOES_WRONG;
@@ -8,18 +16,6 @@ use scan::after_sign;
 use scan::is_stop;
 ghost use mathlib.Core.Path.{_≡_};
 ghost use Rattle.expected.specs.Expected.{expectedAfter, runStart, expectedAt, expectedOf};
-
-pub const NO_EXPECTATION: u32 = 0;
-
-pub const NOTHING_MORE: u32 = 1;
-
-pub const A_DIGIT: u32 = 2;
-
-pub const DIGIT_OR_SIGN: u32 = 3;
-
-pub const NUMBER_OR_WORD: u32 = 4;
-
-pub const REST_OF_WORD: u32 = 5;
 
 // What can stand behind `x`, with which a number's text begins.
 pub fn expected_after(x: &[u8]) -> u32
@@ -47,12 +43,12 @@ pub fn expected_after(x: &[u8]) -> u32
 fn run_start(text: &[u8], place: usize) -> usize
     ensures { λ r. ⌜ r ≡ runStart (now (text .entry)) place ⌝ }
 {
+    if text.len() < place {
+        return place;
+    }
     let mut i = place;
     while 0 < i {
         let before = i - 1;
-        if text.len() <= before {
-            return i;
-        }
         if is_stop(text[before]) {
             return i;
         }
@@ -61,16 +57,13 @@ fn run_start(text: &[u8], place: usize) -> usize
     i
 }
 
-// What was expected of the number that goes wrong at `place`.
+// What was expected of the number that goes wrong at `place`: a token begins behind a stop, so the place is enough to find it again.
 pub fn expected_at(text: &[u8], place: usize) -> u32
     ensures { λ r. ⌜ r ≡ expectedAt (now (text .entry)) place ⌝ }
 {
     let start = after_plus(text, run_start(text, place));
     if place <= start {
-        return expected_after(b"");
-    }
-    if text.len() < place {
-        return expected_after(b"");
+        return NUMBER_OR_WORD;
     }
     expected_after(&text[start..place])
 }

@@ -5,6 +5,12 @@
 //   GEOMETRYCOLLECTION(京(1 2))
 //                        ^
 //
+// a number that goes wrong, as in `POINT(1 4x)`, with what was expected there,
+//
+//   refused 29 9: Unable to parse input number as the desired output type: nothing more was expected
+//   POINT(1 4x)
+//            ^
+//
 // and of a text that is read the counts of its nodes and numbers are told, as in `accepted 1 2`.
 mod characters;
 
@@ -17,8 +23,9 @@ use console::is_over;
 use console::put_line;
 use console::put_refusal;
 use console::read_input;
+use expected::expected_of;
 use line_places::next_begin;
-use messages::put_message;
+use messages::put_told;
 use printing::flush;
 use printing::least;
 use printing::put;
@@ -75,7 +82,7 @@ fn put_place(out: &mut [u8], at: usize, text: &[u8], place: usize) -> usize {
 
 fn put_explained(out: &mut [u8], text: &[u8], number: u32, place: usize) -> usize {
     let end = put_refusal(out, 0, number, place, b": ");
-    let end = put_message(out, end, number);
+    let end = put_told(out, end, number, expected_of(text, number, place));
     put_place(out, end, text, place)
 }
 

@@ -4,6 +4,8 @@ use console::INPUT_BYTES;
 use console::INPUT_LIMIT;
 use console::is_over;
 use console::read_input;
+use expected::NO_EXPECTATION;
+use expected::expected_of;
 use libc::STDOUT_FILENO;
 use messages::complain;
 use printing::least;
@@ -27,7 +29,7 @@ const KEPT_BYTES: usize = 8 + ENOUGH_ROWS * 7 + ENOUGH_ROWS * 3 + INPUT_LIMIT;
 fn keep_rows(text: &[u8], nodes: &[u32], numbers: &[u32], kept: &mut [u8]) {
     let wrote = stored::write(text, nodes, numbers, kept);
     if wrote.number != 0 {
-        complain(&NAME, wrote.number, wrote.place);
+        complain(&NAME, wrote.number, wrote.place, NO_EXPECTATION);
         return;
     }
     let length = least(wrote.length, kept.len());
@@ -37,7 +39,8 @@ fn keep_rows(text: &[u8], nodes: &[u32], numbers: &[u32], kept: &mut [u8]) {
 fn keep_text(text: &[u8], nodes: &mut [u32], numbers: &mut [u32], kept: &mut [u8]) {
     let read = wkt::read(text, nodes, numbers);
     if read.number != 0 {
-        complain(&NAME, read.number, read.place);
+        let expected = expected_of(text, read.number, read.place);
+        complain(&NAME, read.number, read.place, expected);
         return;
     }
     let node_places = store::node_places(nodes, read.nodes);
@@ -58,7 +61,7 @@ fn keep(
     kept: &mut [u8; KEPT_BYTES],
 ) {
     if is_over(text) {
-        complain(&NAME, TEXT_TOO_LONG, INPUT_LIMIT);
+        complain(&NAME, TEXT_TOO_LONG, INPUT_LIMIT, NO_EXPECTATION);
     } else {
         keep_text(text, nodes, numbers, kept);
     }

@@ -1,5 +1,6 @@
 // Lists the tree whose stored bytes come on standard input, as `listing` lists one that is read from a text. A refusal is told on standard error, as
 // `kept: refused 25 at byte 8: A field is cut, missing, extra or of wrong tag or length`, and nothing is listed.
+use expected::NO_EXPECTATION;
 use libc::STDIN_FILENO;
 use messages::complain;
 use printing::flush;
@@ -28,7 +29,7 @@ fn list_kept(input: &[u8], count: usize, nodes: &mut [u32], numbers: &mut [u32],
     let bytes = &input[0..end];
     let read = stored::read(bytes, nodes, numbers);
     if read.number != 0 {
-        complain(&NAME, read.number, read.place);
+        complain(&NAME, read.number, read.place, NO_EXPECTATION);
         return;
     }
     let full = put_lines(out, 0, read, bytes, nodes, numbers);

@@ -1,3 +1,4 @@
 pub mod Messages
+pub mod ExpectedLines
 pub mod Complaint
 pub mod Examples

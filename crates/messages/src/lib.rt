@@ -1,13 +1,16 @@
-// The messages of the refusals.
+// The messages of the refusals, and what was expected where a number goes wrong.
+mod expected_lines;
 mod message_lines;
 
+use expected_lines::EXPECTED_LINES;
 use line_places::line_at;
 use message_lines::MESSAGE_LINES;
 ghost use mathlib.Core.Path.{_≡_};
 ghost use Rattle.printing.specs.Printing.{buffer, putIn, putAllIn};
 ghost use Rattle.line_places.specs.Lines.{numberedLine};
 ghost use Rattle.messages.specs.Messages.{messageLines};
-ghost use Rattle.messages.specs.Complaint.{complaint};
+ghost use Rattle.messages.specs.ExpectedLines.{expectedLines};
+ghost use Rattle.messages.specs.Complaint.{toldLine, complaint};
 use libc::STDERR_FILENO;
 use printing::least;
 use printing::put;
@@ -33,9 +36,34 @@ pub fn put_message(out: &mut [u8], at: usize, number: u32) -> usize
     put_line_at(out, at, &MESSAGE_LINES, number as usize)
 }
 
-// Puts the line that tells of a refusal: the program's name, number, place and message.
-pub fn put_complaint(out: &mut [u8], at: usize, program: &[u8], number: u32, place: usize) -> usize
-    ensures { λ r. ⌜ buffer (now (out .exit)) r ≡ putAllIn (complaint (now (program .entry)) number place) (buffer (now (out .entry)) at) ⌝ }
+// Puts the message of a number that goes wrong with what was expected there (the crate `expected`), and the line's end.
+pub fn put_expected(out: &mut [u8], at: usize, expected: u32) -> usize
+    ensures { λ r. ⌜ buffer (now (out .exit)) r ≡ putIn (numberedLine expectedLines expected) (buffer (now (out .entry)) at) ⌝ }
+{
+    put_line_at(out, at, &EXPECTED_LINES, expected as usize)
+}
+
+// Puts the message of a refusal with what was expected at its place, where that isn't 0, and the line's end.
+pub fn put_told(out: &mut [u8], at: usize, number: u32, expected: u32) -> usize
+    ensures { λ r. ⌜ buffer (now (out .exit)) r ≡ putIn (toldLine number expected) (buffer (now (out .entry)) at) ⌝ }
+{
+    if expected == 0 {
+        put_message(out, at, number)
+    } else {
+        put_expected(out, at, expected)
+    }
+}
+
+// Puts the line that tells of a refusal: the program's name, number, place and message, with what was expected there.
+pub fn put_complaint(
+    out: &mut [u8],
+    at: usize,
+    program: &[u8],
+    number: u32,
+    place: usize,
+    expected: u32,
+) -> usize
+    ensures { λ r. ⌜ buffer (now (out .exit)) r ≡ putAllIn (complaint (now (program .entry)) number place expected) (buffer (now (out .entry)) at) ⌝ }
 {
     let named = put(out, at, program);
     let told = put(out, named, b": refused ");
@@ -43,14 +71,14 @@ pub fn put_complaint(out: &mut [u8], at: usize, program: &[u8], number: u32, pla
     let led = put(out, numbered, b" at byte ");
     let placed = put_number(out, led, place);
     let end = put(out, placed, b": ");
-    put_message(out, end, number)
+    put_told(out, end, number, expected)
 }
 
 // Tells of a refusal on standard error.
-pub fn complain(program: &[u8], number: u32, place: usize) {
+pub fn complain(program: &[u8], number: u32, place: usize, expected: u32) {
     let mut line = [0u8; LINE_BYTES];
     let end = least(
-        put_complaint(&mut line, 0, program, number, place),
+        put_complaint(&mut line, 0, program, number, place, expected),
         LINE_BYTES,
     );
     io::write_all(STDERR_FILENO, &line[0..end]);

@@ -1,12 +1,12 @@
 // The messages of the refusals, made by tools/refusals from crates/refusals/table.txt: the line at a
 // refusal's number is its message, from 0 on.
-pub(crate) const MESSAGE_LINES: [u8; 1167] = *b"No refusal\n\
+pub(crate) const MESSAGE_LINES: [u8; 1127] = *b"No refusal\n\
     More bytes than a text (65,535) or a stored tree (1,048,576) may have\n\
     The text is not well-formed UTF-8\n\
     No room for another node\n\
     No room for another number\n\
     More than 32 collections are open\n\
-    Unable to parse input number as the desired output type\n\
+    No longer given\n\
     Encountered non-ascii word\n\
     Invalid WKT format\n\
     Invalid type encountered\n\

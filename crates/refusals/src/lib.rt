@@ -10,8 +10,6 @@ pub const NO_NUMBER_ROW: u32 = 4;
 
 pub const TOO_DEEP: u32 = 5;
 
-pub const BAD_NUMBER: u32 = 6;
-
 pub const NON_ASCII_ROOT: u32 = 7;
 
 pub const NO_ROOT: u32 = 8;

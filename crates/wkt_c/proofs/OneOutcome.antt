@@ -17,6 +17,7 @@ use Rattle.lists.proofs.One.{one}
 use Rattle.rooms.specs.Rooms.{enoughRows}
 use Rattle.strict.specs.Strict.{strictOf}
 use Rattle.infer_type.specs.Infer.{inferType}
+use Rattle.expected.specs.Expected.{expectedOf}
 use Rattle.c_answers.specs.Answers.{strictPlaces, inferPlaces, ReadsInto, WritesInto}
 
 pub doorhollow_enough_rows-one : (bytes : ℕ) → One (λ r. r ≡ enoughRows bytes)
@@ -49,3 +50,6 @@ doorhollow_strict-one text nodes numbers = one
 
 pub doorhollow_infer_type-one : (text : List ℕ) → One (λ answer. answer ≡ inferPlaces (inferType text))
 doorhollow_infer_type-one text = one
+
+pub doorhollow_expected-one : (text : List ℕ) (number place : ℕ) → One (λ r. r ≡ expectedOf text number place)
+doorhollow_expected-one text number place = one

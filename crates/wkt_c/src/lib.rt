@@ -13,6 +13,7 @@ ghost use Rattle.c_answers.specs.Answers.{ReadsInto, WritesInto, strictPlaces, 
 ghost use Rattle.rooms.specs.Rooms.{enoughRows};
 ghost use Rattle.strict.specs.Strict.{strictOf};
 ghost use Rattle.infer_type.specs.Infer.{inferType};
+ghost use Rattle.expected.specs.Expected.{expectedOf};
 use c_answers::ANSWER_PLACES;
 
 // `rooms::enough_rows`: lent so many node rows and so many number rows, `doorhollow_read` answers neither 3 nor 4.
@@ -102,4 +103,12 @@ pub extern "C" fn doorhollow_infer_type(text: &[u8], answer: &mut [u64; ANSWER_P
 {
     let a = infer_type::infer_type(text);
     *answer = c_answers::infer_places(a);
+}
+
+// `expected::expected_of`: what was expected where a text was refused with 28 or 29.
+#[no_mangle]
+pub extern "C" fn doorhollow_expected(text: &[u8], number: u32, place: usize) -> u32
+    ensures { λ r. ⌜ r ≡ expectedOf (now (text .entry)) number place ⌝ }
+{
+    expected::expected_of(text, number, place)
 }

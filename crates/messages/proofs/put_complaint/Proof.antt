@@ -6,11 +6,10 @@ use mathlib.Core.Path.{_∙_, ap}
 use Prim.Native.Nat.{ℕ}
 use Rattle.scan.specs.Text.{bytes}
 use Rattle.printing.specs.Printing.{decimal, putIn, putAllIn}
-use Rattle.line_places.specs.Lines.{numberedLine}
-use Rattle.messages.specs.Messages.{messageLines}
+use Rattle.messages.specs.Complaint.{toldLine}
 use Rattle.messages.proofs.put_complaint.Statement.{statement}
 use Rattle.messages.proofs.put_complaint.Tie as tie
-use Rattle.messages.proofs.put_message.Reads as put-message-reads
+use Rattle.messages.proofs.put_told.Reads as put-told-reads
 use Rattle.printing.proofs.put.Reads as put-reads
 use Rattle.printing.proofs.put_number.Reads as put-number-reads
 
@@ -41,8 +40,8 @@ slice-aggregate-put-3 c = search needs
 put-requires-4 : tie.Need-put-requires-4
 put-requires-4 c κs = search needs
 
-put-message-requires : tie.Need-put-message-requires
-put-message-requires c κs = search needs
+put-told-requires : tie.Need-put-told-requires
+put-told-requires c κs = search needs
 
 same-length : tie.Need-same-length
 same-length c = search needs
@@ -53,7 +52,8 @@ returns c =
     let program = now (c .before .before .before .before .before .before .before .before .before .before .before .before .before .before .before .before .before .before .before .before .before .before .before .before .before .before .before .before .before .before .before .before .before .args .program) in
     let number : ℕ = c .before .before .before .before .before .before .before .before .before .before .before .before .before .before .before .before .before .before .before .before .before .before .before .before .before .before .before .before .before .before .before .before .before .args .number in
     let place : ℕ = c .before .before .before .before .before .before .before .before .before .before .before .before .before .before .before .before .before .before .before .before .before .before .before .before .before .before .before .before .before .before .before .before .before .args .place in
-    c .before .before .put-message .ensures ∙ ap (putIn (numberedLine messageLines number)) (c .before .before .before .before .before .before .put4 .ensures ∙ ap (putIn (bytes ": ")) (c .before .before .before .before .before .before .before .before .before .before .before .put-number2 .ensures ∙ ap (putIn (decimal place)) (c .before .before .before .before .before .before .before .before .before .before .before .before .before .before .before .put3 .ensures ∙ ap (putIn (bytes " at byte ")) (c .before .before .before .before .before .before .before .before .before .before .before .before .before .before .before .before .before .before .before .before .put-number .ensures ∙ ap (putIn (decimal number)) (c .before .before .before .before .before .before .before .before .before .before .before .before .before .before .before .before .before .before .before .before .before .before .before .before .put2 .ensures ∙ ap (putIn (bytes ": refused ")) (c .before .before .before .before .before .before .before .before .before .before .before .before .before .before .before .before .before .before .before .before .before .before .before .before .before .before .before .before .before .put .ensures))))))
+    let expected : ℕ = c .before .before .before .before .before .before .before .before .before .before .before .before .before .before .before .before .before .before .before .before .before .before .before .before .before .before .before .before .before .before .before .before .before .args .expected in
+    c .before .before .put-told .ensures ∙ ap (putIn (toldLine number expected)) (c .before .before .before .before .before .before .put4 .ensures ∙ ap (putIn (bytes ": ")) (c .before .before .before .before .before .before .before .before .before .before .before .put-number2 .ensures ∙ ap (putIn (decimal place)) (c .before .before .before .before .before .before .before .before .before .before .before .before .before .before .before .put3 .ensures ∙ ap (putIn (bytes " at byte ")) (c .before .before .before .before .before .before .before .before .before .before .before .before .before .before .before .before .before .before .before .before .put-number .ensures ∙ ap (putIn (decimal number)) (c .before .before .before .before .before .before .before .before .before .before .before .before .before .before .before .before .before .before .before .before .before .before .before .before .put2 .ensures ∙ ap (putIn (bytes ": refused ")) (c .before .before .before .before .before .before .before .before .before .before .before .before .before .before .before .before .before .before .before .before .before .before .before .before .before .before .before .before .before .put .ensures))))))
 
 pub put-complaint-spec : {M : Type 1} → statement M
 put-complaint-spec =
@@ -68,6 +68,6 @@ put-complaint-spec =
     put-number-requires-2
     slice-aggregate-put-3
     put-requires-4
-    put-message-requires
+    put-told-requires
     same-length
     returns)
