@@ -1,4 +1,4 @@
--- What was expected where a number goes wrong (document 02, 2026-02): "words that say what was expected there (a digit; a digit or sign after `e`;
+-- What was expected where a number goes wrong (asked for with request 2026-02): "words that say what was expected there (a digit; a digit or sign after `e`;
 -- `inf`, `infinity` or `nan` after a sign; nothing more)".
 use Prim.Native.Nat.{ℕ, zero, suc, _-_}
 use mathlib.Core.Bool.{cond}

@@ -1,0 +1,79 @@
+-- The words belong to the number that is refused: at the place where the number at p goes wrong, what was expected is told of that number's own longest beginning.
+-- Assumes nothing.
+use mathlib.Core.Path.{_≡_, refl, sym, ap, _∙_}
+use mathlib.Core.Bool.{Bool, true, false, cond}
+use mathlib.Core.List.{List, [], _∷_}
+use Prim.Native.Nat.{ℕ, zero, suc, _+_, _-_, _≤_, _<_, min}
+use native.Mathlib.Numerals.{unary-clauses}
+use native.Mathlib.Omega.{arith}
+use lib.ListN.{length, getD, take, drop, length-drop}
+use lib.Seq.{length-take-le, take-take, getD-drop}
+use Rattle.scan.specs.Bytes.{isInner, isPlus}
+use Rattle.scan.specs.Front.{part}
+use Rattle.scan.specs.Runs.{run, firstNot, afterOneAt}
+use Rattle.scan.proofs.Bytes.{plus-inner}
+use Rattle.scan.proofs.Runs.{not-before, not-past, scan-one, one-not-before, one-not-past}
+use Rattle.bad_numbers.specs.Openings.{goesWrong}
+use Rattle.bad_numbers.proofs.Openings.{wrong-within}
+use Rattle.expected.specs.Expected.{expectedAfter, runStart, expectedAt}
+
+-- a token that isn't a mark begins at the text's start or behind a stop
+abbrev pub AtRun : List ℕ → ℕ → Type 0
+AtRun text zero = Unit {0}
+AtRun text (suc q) = isInner (getD text q 0) ≡ false
+
+run-start : (text : List ℕ) (p n : ℕ) → AtRun text p → ((i : ℕ) → i < n → isInner (getD text (p + i) 0) ≡ true) → runStart text (p + n) ≡ p
+unfolding runStart
+run-start text zero zero a h = refl
+run-start text (suc q) zero a h = simp unary-clauses (rw a)
+run-start text p (suc n) a h = simp unary-clauses (rw (h n (omega arith)) (run-start text p n a λ i l. h i (omega arith)))
+
+-- every byte of a run passes
+run-passes : (q : ℕ → Bool) (l : List ℕ) (i : ℕ) → i < run q l → q (getD l i 0) ≡ true
+unfolding run
+run-passes q [] i h = absurd (omega arith)
+run-passes q (b ∷ l) i h = go (q b) refl i h (run-passes q l)
+  where
+    go : (t : Bool) → q b ≡ t → (i : ℕ) → i < cond t (suc (run q l)) 0 → ((j : ℕ) → j < run q l → q (getD l j 0) ≡ true) → q (getD (b ∷ l) i 0) ≡ true
+    go true e zero h r = e
+    go true e (suc j) h r = r j (omega arith)
+    go false e i h r = absurd (omega arith)
+
+module _ (text : List ℕ) (p : ℕ) (inside : p ≤ length text) (begins : AtRun text p) where
+  abbrev start : ℕ
+  start = afterOneAt isPlus text p
+
+  abbrev number : List ℕ
+  number = part text start (firstNot isInner text start)
+
+  same-end : firstNot isInner text start ≡ firstNot isInner text p
+  same-end = scan-one isPlus isInner plus-inner text p refl
+
+  number-length : length number ≡ firstNot isInner text start - start
+  number-length = length-take-le (firstNot isInner text start - start) (drop start text) (omega (arith, length-drop start text, not-past isInner text start))
+
+  inner-at : (i : ℕ) → p + i < firstNot isInner text p → isInner (getD text (p + i) 0) ≡ true
+  unfolding firstNot
+  inner-at i h = rw (← getD-drop p text i 0) (run-passes isInner (drop p text) i (omega arith))
+
+  -- the place, counted from where the token starts
+  wide : ℕ
+  wide = (start - p) + goesWrong number
+
+  within : p + wide ≤ firstNot isInner text p
+  unfolding wide
+  within =
+      omega (arith, wrong-within number, number-length, same-end, one-not-before isPlus text p refl, not-before isInner text start (one-not-past isPlus text p refl inside))
+
+  place-is : start + goesWrong number ≡ p + wide
+  unfolding wide
+  place-is = omega (arith, one-not-before isPlus text p refl)
+
+  starts : runStart text (start + goesWrong number) ≡ p
+  starts = ap (runStart text) place-is ∙ run-start text p wide begins λ i l. inner-at i (omega (arith, within))
+
+  pub there : expectedAt text (start + goesWrong number) ≡ expectedAfter (take (goesWrong number) number)
+  unfolding expectedAt
+  there =
+      let few : (start + goesWrong number) - start ≡ goesWrong number = omega arith in
+      rw (starts, few) (ap expectedAfter (sym (take-take (goesWrong number) (firstNot isInner text start - start) (drop start text) (omega (arith, wrong-within number, number-length)))))
