@@ -85,7 +85,7 @@ impl Sample {
 
     fn agree_on_tree(&self, tree: &Tree) -> Result<(), String> {
         let texts = tree.numbers.iter().map(|number| number.text.as_str());
-        hold(self.kind != Kind::Refused, "it should be refused")?;
+        hold(!self.kind.is_refused(), "it should be refused")?;
         hold(self.is_accepted(), "the library refuses it")?;
         hold(
             self.nodes == tree.nodes.concat(),
@@ -105,7 +105,7 @@ impl Sample {
     /// The numbers are those of the Rust's message.
     fn agree_on_refusal(&self, numbers: &[u32]) -> Result<(), String> {
         let last = self.text.len() as u64 - 1;
-        hold(self.kind == Kind::Refused, "it should be accepted")?;
+        hold(self.kind.is_refused(), "it should be accepted")?;
         let is_the_rusts = |number: &u32| self.answer.number == u64::from(*number);
         hold(
             numbers.iter().any(is_the_rusts),

@@ -20,15 +20,18 @@ pub enum Kind {
     Deep,
     /// The polygon, with a wrong last byte.
     Refused,
+    /// One number, with a wrong last byte.
+    Wrong,
 }
 
-pub const KINDS: [Kind; 6] = [
+pub const KINDS: [Kind; 7] = [
     Kind::Polygon,
     Kind::Points,
     Kind::Short,
     Kind::Mixed,
     Kind::Deep,
     Kind::Refused,
+    Kind::Wrong,
 ];
 
 impl Kind {
@@ -40,6 +43,7 @@ impl Kind {
             Kind::Mixed => "mixed",
             Kind::Deep => "deep",
             Kind::Refused => "refused",
+            Kind::Wrong => "wrong",
         }
     }
 
@@ -56,13 +60,19 @@ impl Kind {
             Kind::Mixed => mixed(size),
             Kind::Deep => deep(size),
             Kind::Refused => refused(size),
+            Kind::Wrong => format!("{}x", "1".repeat(size - 1)),
         }
+    }
+
+    pub fn is_refused(self) -> bool {
+        matches!(self, Kind::Refused | Kind::Wrong)
     }
 
     /// The text that is accepted and needs the same rows.
     pub fn accepted_text(self, size: usize) -> String {
         match self {
             Kind::Refused => polygon(size),
+            Kind::Wrong => format!("POINT({} 1)", "1".repeat(size - "POINT( 1)".len())),
             other => other.text(size),
         }
     }

@@ -184,15 +184,15 @@ pub wrong-within : (w : List ℕ) → goesWrong w ≤ length w
 wrong-within w = up-to-within opens w (length w)
 
 -- "the longest beginning [..] that some lexeme begins with": `goesWrong` is its length, ..
-pub goes-wrong : (w : List ℕ) → GoesWrongAt w (goesWrong w)
-goes-wrong w = record {
+pub goes-wrong-at : (w : List ℕ) → GoesWrongAt w (goesWrong w)
+goes-wrong-at w = record {
   within = wrong-within w;
   opens = test-opens (take (goesWrong w) w) (up-to-passes opens w nothing-opens (length w));
   longest = λ m h o. up-to-most opens w (length w) m h (opens-test o);
 }
 
 -- .. and no other number is
-pub goes-wrong-only : (w : List ℕ) (n : ℕ) → GoesWrongAt w n → n ≡ goesWrong w
-goes-wrong-only w n g =
-    let h : goesWrong w ≤ n = g .longest (goesWrong w) (wrong-within w) (goes-wrong w .opens) in
-    omega (arith, goes-wrong w .longest n (g .within) (g .opens))
+pub goes-wrong-only-at : (w : List ℕ) (n : ℕ) → GoesWrongAt w n → n ≡ goesWrong w
+goes-wrong-only-at w n g =
+    let h : goesWrong w ≤ n = g .longest (goesWrong w) (wrong-within w) (goes-wrong-at w .opens) in
+    omega (arith, goes-wrong-at w .longest n (g .within) (g .opens))

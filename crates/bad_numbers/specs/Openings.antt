@@ -1,5 +1,5 @@
 -- Where a number goes wrong (document 02, 2026-02): "the place is the first byte at which no lexeme can go on, or the token's end where more was needed."
--- The definition is `GoesWrongAt`, over the grammar; `goesWrong` computes it (proofs/Openings: `goes-wrong`, `goes-wrong-only`).
+-- The definition is `GoesWrongAt`, over the grammar; `goesWrong` computes it (proofs/Openings: `goes-wrong-at`, `goes-wrong-only-at`).
 use Prim.Native.Nat.{ℕ, zero, suc, _≤_}
 use mathlib.Core.Bool.{Bool, cond, _||_}
 use mathlib.Core.List.{List, _++_}

@@ -51,7 +51,9 @@ fn decimal_end(w: &[u8], at: usize) -> usize
     }
     let b = w[fraction];
     if (b == b'e') | (b == b'E') {
-        return digits_end(w, after_sign(w, fraction + 1));
+        let behind = fraction + 1;
+        let sign = after_sign(w, behind);
+        return digits_end(w, sign);
     }
     fraction
 }

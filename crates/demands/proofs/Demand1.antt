@@ -9,8 +9,9 @@ use Prim.Native.Nat.{ℕ, _+_, _-_, _≤_, _<_}
 use native.Mathlib.Omega.{arith}
 use lib.Dec.{eqb, leb}
 use lib.ListN.{length}
-use borrow.Author.Tests.{eqb-false, leb-true, leb-false}
+use borrow.Author.Tests.{eqb-true, eqb-false, leb-true, leb-false}
 use Rattle.limits.specs.Limits.{textLimit, overLimit, depthLimit}
+use Rattle.scan.proofs.Bytes.{or-elim}
 use Rattle.utf8.specs.Utf8.{isUtf8, firstIll}
 use Rattle.token_stream.specs.Lex.{lex}
 use Rattle.token_stream.specs.Stream.{Tok, Str, toks}
@@ -155,11 +156,11 @@ reads-by-steps text ns ms a ns′ ms′ r z =
     came (ran (halt f) s) o h e = let q : _≡_ {A = ℕ} 0 1 = cc in absurd (omega (arith, q))
 
 -- ---- 1 and 2, exactly when
-fault-number : {t : Tok} {e : ℕ} → AtFault t e → 3 ≤ e
+fault-number : {t : Tok} {e p : ℕ} → AtFault t e p → 3 ≤ e
 fault-number no-node = omega arith
 fault-number (no-number s) = omega arith
 fault-number (too-deep s) = omega arith
-fault-number (bad-number s) = omega arith
+fault-number (bad-number {r = r} s w) = or-elim (eqb (r .number) 28) (eqb (r .number) 29) (λ z. omega (arith, eqb-true (r .number) 28 z)) (λ z. omega (arith, eqb-true (r .number) 29 z)) w
 fault-number (not-ascii s w) = omega arith
 fault-number (no-root o) = omega arith
 fault-number (no-name s i) = omega arith

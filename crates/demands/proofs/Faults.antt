@@ -19,59 +19,27 @@ use Rattle.token.specs.declared.Found.{Found}
 use Rattle.token.specs.declared.Read.{Read}
 use Rattle.token.specs.declared.Token.{Token}
 use Rattle.token.specs.declared.Token.the-variants.{Comma, Number, ParenClose, ParenOpen, Word}
-use Rattle.token.specs.Tokens.{endOf, textStart, numberOr, numberAt, wordAt, startAt, tokenAt, readAt}
+use Rattle.token.specs.Tokens.{endOf, textStart, numberOr, numberAt, wordAt, startAt, tokenAt, readAt, numberText}
+use Rattle.token.proofs.BadNumbers.{told}
 use Rattle.token_stream.specs.Lex.{lex}
-use Rattle.token_stream.specs.Stream.{open-tk, close-tk, comma-tk, none-tk, bad-tk, word-tk, number-tk, Tok, tok, Str, end, then, hd, tl, size, noneThen, cons, tokIn, toksBy, toks}
+use Rattle.token_stream.specs.Stream.{Tok, Str, hd, size, tokIn, toks}
 use Rattle.lists.proofs.Cases.{either}
+use Rattle.token_stream.proofs.Each.{Toks, hd-all, tl-all, toks-all}
 use Rattle.token_stream.proofs.Bridge.{toks-lex}
 use Rattle.grammar.specs.Asks.{run}
 use Rattle.grammar.specs.Grammar.{root}
 use Rattle.grammar.specs.Reading.{enough}
 use Rattle.grammar_laws.proofs.Fuel.{lex-size}
+use Rattle.grammar_laws.proofs.Former.{bad-numbered}
 use Rattle.demands.specs.Steps.{Came, read-whole}
-use Rattle.demands.specs.Faults.{later, numberText, Starts, TokensStart}
+use Rattle.demands.specs.Faults.{later, Starts, TokensStart}
 use Rattle.demands.proofs.Steps.{Own, GotIn, root-in}
 
--- ---- what holds of each token of a stream, its end included
+-- ---- what holds of each token of a text
 module _ (Q : Tok → Type 0) where
-  abbrev pub Toks : Str → Type 0
-  Toks (end n) = Q (tok n none-tk)
-  Toks (then t s) = Q t × Toks s
-
-  pub hd-all : (s : Str) → Toks s → Q (hd s)
-  hd-all (end n) a = a
-  hd-all (then t s) a = a .0
-
-  pub tl-all : (s : Str) → Toks s → Toks (tl s)
-  tl-all (end n) a = a
-  tl-all (then t s) a = a .1
-
-  none-all : (p : ℕ) (s : Str) → Q (tok p none-tk) → Toks s → Toks (noneThen p s)
-  none-all p (end n) q a = either (eqb p n) Toks _ _ (λ e. a) λ e. (q, a)
-  none-all p (then t s) q a = (q, a)
-
-  cons-all : (t : Tok) (s : Str) → Q t → Toks s → Toks (cons t s)
-  unfolding cons
-  cons-all (tok p none-tk) s q a = none-all p s q a
-  cons-all (tok p (bad-tk r)) s q a = (q, a)
-  cons-all (tok p open-tk) s q a = (q, a)
-  cons-all (tok p close-tk) s q a = (q, a)
-  cons-all (tok p comma-tk) s q a = (q, a)
-  cons-all (tok p (number-tk r x)) s q a = (q, a)
-  cons-all (tok p (word-tk w)) s q a = (q, a)
-
-  -- what holds of each token that is read, and of the end
-  pub toks-all : (text : List ℕ) → Q (tok (length text) none-tk) → ((i : ℕ) → Q (tokIn text (readAt text i .found))) → Toks (toks text 0)
-  unfolding toks toksBy
-  toks-all text z h = go (length text) 0
-    where
-      go : (n i : ℕ) → Toks (toksBy text n i)
-      go zero i = z
-      go (suc n) i = cons-all (tokIn text (readAt text i .found)) (toksBy text n (readAt text i .at)) (h i) (go n (readAt text i .at))
-
-  pub at-index : (s : Str) (n : ℕ) → Toks s → Toks (later n s)
+  at-index : (s : Str) (n : ℕ) → Toks Q s → Toks Q (later n s)
   at-index s zero a = a
-  at-index s (suc n) a = tl-all (later n s) (at-index s n a)
+  at-index s (suc n) a = tl-all Q (later n s) (at-index s n a)
 
 -- ---- the tokens of a text
 own-token : (text : List ℕ) (p : ℕ) (t : Token) → Own (tokIn text (Found.Is p t))
@@ -83,7 +51,7 @@ own-token text p (Word s l) = tt
 
 own-found : (text : List ℕ) (f : Found) → Own (tokIn text f)
 own-found text (Found.NoToken p) = tt
-own-found text (Found.BadNumber p) = refl
+own-found text (Found.BadNumber p) = bad-numbered text p
 own-found text (Found.Is p t) = own-token text p t
 
 all-own : (text : List ℕ) (i : ℕ) → Own (hd (later i (toks text 0)))
@@ -101,13 +69,13 @@ module _ (text : List ℕ) where
   abbrev Right : Read → Type 0
   Right r = Starts text (tokIn text (r .found))
 
-  number-starts : (p : ℕ) → isNumberlike (getD text p 0) ≡ true → Right (numberAt text p)
+  number-starts : (p : ℕ) → p < length text → isInner (getD text p 0) ≡ true → isNumberlike (getD text p 0) ≡ true → Right (numberAt text p)
   unfolding numberAt
-  number-starts p n = go (isLexeme (numberText text p)) refl
+  number-starts p l i n = go (isLexeme (numberText text p)) refl
     where
       go : (b : Bool) → isLexeme (numberText text p) ≡ b → Starts text (tokIn text (numberOr b p (textStart text p) (endOf text (textStart text p))))
       go true e = (n, refl, refl, sound (numberText text p) e)
-      go false e = (n, λ f. false≢true (sym e ∙ passes f))
+      go false e = (n, (λ f. false≢true (sym e ∙ passes f)), refl, told text p i l)
 
   byte-starts : (p b : ℕ) → p < length text → getD text p 0 ≡ b → isBlank b ≡ false → Right (startAt text p b)
   unfolding startAt wordAt
@@ -116,7 +84,7 @@ module _ (text : List ℕ) where
       either (eqb b parenOpen) Right _ _ (λ z. (l, e ∙ eqb-true b parenOpen z)) λ z1.
       either (eqb b parenClose) Right _ _ (λ z. (l, e ∙ eqb-true b parenClose z)) λ z2.
       either (eqb b comma) Right _ _ (λ z. (l, e ∙ eqb-true b comma z)) λ z3.
-      either (isNumberlike b) Right _ _ (λ z. number-starts p (rw e z)) λ z.
+      either (isNumberlike b) Right _ _ (λ z. (let i : isInner b ≡ true = rw (y, z0, z1, z2, z3) in number-starts p l (rw e i) (rw e z))) λ z.
       (let i : isInner b ≡ true = rw (y, z0, z1, z2, z3) in (rw e i, rw e z, refl))
 
   pub read-starts : (i : ℕ) → Right (readAt text i)

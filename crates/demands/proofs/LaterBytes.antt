@@ -16,6 +16,7 @@ use Rattle.store.proofs.Rows.{no-row-parts, first-parts}
 use Rattle.token_stream.specs.Stream.{open-tk, close-tk, comma-tk, none-tk, bad-tk, word-tk, number-tk, Tok, tok, Str, hd, tl, tokIn}
 use Rattle.token.specs.Tokens.{readAt}
 use Rattle.token_stream.specs.Lex.{lex}
+use Rattle.token_stream.proofs.Each.{Toks, hd-all, tl-all, toks-all}
 use Rattle.token_stream.proofs.Bridge.{toks-lex}
 use Rattle.grammar.specs.Answers.{Passes}
 use Rattle.grammar.specs.Asks.{P, ret, ask, look}
@@ -29,7 +30,7 @@ use Rattle.demands.specs.Calls.{Read, usedNodes, usedNumbers}
 use Rattle.demands.specs.Faults.{ByteAt, Starts}
 use Rattle.demands.specs.LaterBytes.{Ends, LaterBytes}
 use Rattle.demands.proofs.Calls.{accepts, left, its-nodes, its-numbers}
-use Rattle.demands.proofs.Faults.{Toks, hd-all, tl-all, toks-all, read-starts}
+use Rattle.demands.proofs.Faults.{read-starts}
 
 -- ---- the last token is one of the text's: a `)` there is the byte at its place
 last-all : {A : Type 0} (Q : Tok → Type 0) (p : P A) (s : Str) (z : Tok) → Toks Q s → Q z → Q (lastOf p s z)

@@ -21,7 +21,7 @@ use Rattle.names.specs.Names.{spellings, meaning, isEmptyWord}
 use Rattle.names.specs.Table.{isKnown}
 use Rattle.names.proofs.Table.{means-spelled}
 use Rattle.store.proofs.Rows.{closeIn-length}
-use Rattle.token.specs.Tokens.{badNumberAt}
+use Rattle.token.specs.declared.Refusal.{Refusal}
 use Rattle.token_stream.specs.Stream.{Tk, open-tk, close-tk, comma-tk, none-tk, bad-tk, word-tk, number-tk, Tok, tok, Str, end, then, hd, tl, toks}
 use Rattle.token_stream.specs.Lex.{markTk, numberTk, runTk, Lexed, lexed, flush, push, lexByte, lexRun, lex}
 use Rattle.token_stream.proofs.Bridge.{toks-lex}
@@ -58,15 +58,15 @@ abbrev LexedApart : ℕ → Lexed → Type 0
 LexedApart p (lexed r s) = Apart (p + length r) s
 
 -- a run's token is a number, a bad number or the whole run as a word
-number-tk-gap : (p : ℕ) (b : ℕ) (bs : List ℕ) (q : ℕ) (x : List ℕ) (u : Tok) → p + suc (length bs) ≤ placeOf u → (sortOf u ≡ sortNumber → p + suc (length bs) < placeOf u) → Gap (tok p (numberTk (badNumberAt p (b ∷ bs)) q x)) u
+number-tk-gap : (p : ℕ) (bs : List ℕ) (r : Refusal) (q : ℕ) (x : List ℕ) (u : Tok) → p + suc (length bs) ≤ placeOf u → (sortOf u ≡ sortNumber → p + suc (length bs) < placeOf u) → Gap (tok p (numberTk r q x)) u
 unfolding numberTk
-number-tk-gap p b bs q x u l n = either (isLexeme x) (λ k. Gap (tok p k) u) _ _ (λ e. (omega arith, (λ v w. omega (arith, n w)), λ v. absurd (omega (arith, v)))) λ e. (omega arith, (λ v w. absurd (omega (arith, v))), λ v. absurd (omega (arith, v)))
+number-tk-gap p bs r q x u l n = either (isLexeme x) (λ k. Gap (tok p k) u) _ _ (λ e. (omega arith, (λ v w. omega (arith, n w)), λ v. absurd (omega (arith, v)))) λ e. (omega arith, (λ v w. absurd (omega (arith, v))), λ v. absurd (omega (arith, v)))
 
 run-gap : (p b : ℕ) (bs : List ℕ) (u : Tok) → p + suc (length bs) ≤ placeOf u → (sortOf u ≡ sortNumber → p + suc (length bs) < placeOf u) → Gap (tok p (runTk p b bs)) u
 unfolding runTk
 run-gap p b bs u l n =
     either (isNumberlike b) (λ k. Gap (tok p k) u) _ _
-    (λ e. either (eqb b plus) (λ k. Gap (tok p k) u) _ _ (λ f. number-tk-gap p b bs (p + 1) bs u l n) λ f. number-tk-gap p b bs p (b ∷ bs) u l n)
+    (λ e. either (eqb b plus) (λ k. Gap (tok p k) u) _ _ (λ f. number-tk-gap p bs _ (p + 1) bs u l n) λ f. number-tk-gap p bs _ p (b ∷ bs) u l n)
     λ e. (omega arith, (λ v w. absurd (omega (arith, v))), λ v. l)
 
 flush-gaps : (p : ℕ) (l : Lexed) → LexedApart p l → (p ≤ placeOf (hd (flush p l))) × Gaps (flush p l)
@@ -227,14 +227,14 @@ bare-one : rank kindMultiPoint ≡ 1
 unfolding rank
 bare-one = refl
 
--- numbers of a list that are 6 or more
-one-of : (e : ℕ) (is : List ℕ) → every (leb 6) is ≡ true → oneOf e is ≡ true → 6 ≤ e
+-- numbers of a list that are 7 or more
+one-of : (e : ℕ) (is : List ℕ) → every (leb 7) is ≡ true → oneOf e is ≡ true → 7 ≤ e
 unfolding every
 one-of e [] h w = absurd (false≢true w)
-one-of e (i ∷ is) h w = go (eqb e i) refl (λ v. one-of e is (every-tail (leb 6) i is h) v) w
+one-of e (i ∷ is) h w = go (eqb e i) refl (λ v. one-of e is (every-tail (leb 7) i is h) v) w
   where
-    go : (b : Bool) → eqb e i ≡ b → (oneOf e is ≡ true → 6 ≤ e) → (b || oneOf e is) ≡ true → 6 ≤ e
-    go true f k v = omega (arith, eqb-true e i f, leb-true 6 i (every-head (leb 6) i is h))
+    go : (b : Bool) → eqb e i ≡ b → (oneOf e is ≡ true → 7 ≤ e) → (b || oneOf e is) ≡ true → 7 ≤ e
+    go true f k v = omega (arith, eqb-true e i f, leb-true 7 i (every-head (leb 7) i is h))
     go false f k v = k v
 
 module _ (N M : ℕ) (s₀ : Str) (gaps : (i : ℕ) → Gaps (later i s₀)) where
@@ -318,23 +318,23 @@ module _ (N M : ℕ) (s₀ : Str) (gaps : (i : ℕ) → Gaps (later i s₀)) whe
     wants (no-number-row c a w l) = ((λ z. absurd (omega (arith, z))), λ z. omega (arith, paid c .side .1 w, number-in-text c w))
     wants (too-many c w l) = ((λ z. absurd (omega (arith, z))), λ z. absurd (omega (arith, z)))
 
-  -- a step that refuses gives 6 or more
-  axis-number : (d n i e : ℕ) → Axis d n i → oneOf e (6 ∷ i ∷ []) ≡ true → 6 ≤ e
+  -- a step that refuses gives 7 or more
+  axis-number : (d n i e : ℕ) → Axis d n i → oneOf e (28 ∷ 29 ∷ i ∷ []) ≡ true → 7 ≤ e
   unfolding every
-  axis-number d _ _ e axis-x w = one-of e (6 ∷ 14 ∷ []) refl w
-  axis-number d _ _ e axis-y w = one-of e (6 ∷ 15 ∷ []) refl w
-  axis-number d _ _ e (axis-z h) w = one-of e (6 ∷ 16 ∷ []) refl w
-  axis-number d _ _ e (axis-m h) w = one-of e (6 ∷ 17 ∷ []) refl w
+  axis-number d _ _ e axis-x w = one-of e (28 ∷ 29 ∷ 14 ∷ []) refl w
+  axis-number d _ _ e axis-y w = one-of e (28 ∷ 29 ∷ 15 ∷ []) refl w
+  axis-number d _ _ e (axis-z h) w = one-of e (28 ∷ 29 ∷ 16 ∷ []) refl w
+  axis-number d _ _ e (axis-m h) w = one-of e (28 ∷ 29 ∷ 17 ∷ []) refl w
 
-  high : {os : List Open} {t : Tok} {e : ℕ} {s : Str} → Refusing N M s₀ os t e s → 6 ≤ e
+  high : {os : List Open} {t : Tok} {e : ℕ} {s : Str} → Refusing N M s₀ os t e s → 7 ≤ e
   unfolding every
-  high (at-root {e = e} c w) = one-of e (6 ∷ 7 ∷ 8 ∷ 9 ∷ []) refl w
-  high (at-child {e = e} c w) = one-of e (6 ∷ 9 ∷ 18 ∷ []) refl w
+  high (at-root {e = e} c w) = one-of e (28 ∷ 29 ∷ 7 ∷ 8 ∷ 9 ∷ []) refl w
+  high (at-child {e = e} c w) = one-of e (28 ∷ 29 ∷ 9 ∷ 18 ∷ []) refl w
   high (at-header {e = e} c w) = one-of e (10 ∷ 11 ∷ []) refl w
-  high (at-paren {e = e} c w) = one-of e (6 ∷ 12 ∷ []) refl w
+  high (at-paren {e = e} c w) = one-of e (28 ∷ 29 ∷ 12 ∷ []) refl w
   high (at-number {d = d} {n = n} {i = i} {e = e} c a w) = axis-number d n i e a w
-  high (at-closing {e = e} c w) = one-of e (6 ∷ 13 ∷ []) refl w
-  high (behind-refused {e = e} c w) = one-of e (6 ∷ 13 ∷ []) refl w
+  high (at-closing {e = e} c w) = one-of e (28 ∷ 29 ∷ 13 ∷ []) refl w
+  high (behind-refused {e = e} c w) = one-of e (28 ∷ 29 ∷ 13 ∷ []) refl w
   high (stands c w) = high c
 
 -- ---- of texts

@@ -1,7 +1,7 @@
 -- Every refusal of a reading comes from a step that was due, at a token that can be at fault for its number: one induction over the grammar.
 -- Assumes nothing.
 use mathlib.Core.Path.{_≡_, refl, ap, sym, subst, _∙_}
-use mathlib.Core.Bool.{Bool, true, false, cond}
+use mathlib.Core.Bool.{Bool, true, false, false≢true, cond, _||_}
 use mathlib.Core.Logic.{inl, inr}
 use mathlib.Core.List.{List, [], _∷_}
 use Prim.Native.Nat.{ℕ, zero, suc, _+_, _≤_, _<_}
@@ -21,6 +21,7 @@ use Rattle.names.specs.Names.{meaning, ending, isEmptyWord}
 use Rattle.store.specs.Rows.{closeIn}
 use Rattle.store.proofs.Rows.{closeIn-length}
 use Rattle.token.specs.declared.Refusal.{Refusal}
+use Rattle.token.specs.Tokens.{isBadNumber}
 use Rattle.token_stream.specs.Stream.{open-tk, close-tk, comma-tk, none-tk, bad-tk, word-tk, number-tk, Tok, tok, Str, end, then, hd, tl, size}
 use Rattle.token_stream.proofs.Stream.{size-tl}
 use Rattle.grammar.specs.Asks.{P, ret, ask, look, bind, Ran, ran, run}
@@ -31,15 +32,23 @@ use Rattle.grammar_laws.proofs.WellRead.{isKind, knownName, name-known}
 use Rattle.demands.specs.Steps.{Open, node, Due, root-due, part-due, header-due, paren-due, number-due, read-whole, NameDue, of-root, of-child, Child, child-ring, child-line, child-polygon, child-point, Axis, axis-x, axis-y, axis-z, axis-m, Came, begins, named-bare, named-joined, ending-taken, flat, nameless, paren-taken, empty-taken, point-begun, coord-begun, number-taken, coord-read, comma-taken, close-taken, parts-filled, collections, oneOf, Stopping, Refusing, no-node-row, no-bare-row, no-number-row, too-many, at-root, at-child, at-header, at-paren, at-number, at-closing, behind-refused, stands}
 use Rattle.demands.specs.Faults.{Other, AtFault, no-node, no-number, too-deep, bad-number, not-ascii, no-root, no-name, no-header, no-ending, not-opened, not-closed, no-x, no-y, no-z, no-m, no-child, later, Among}
 
--- a bad number carries its own refusal
+-- a bad number carries its own refusal, 28 or 29
 abbrev pub Own : Tok → Type 0
 Own (tok p none-tk) = Unit {0}
-Own (tok p (bad-tk r)) = r ≡ refusal 6 p
+Own (tok p (bad-tk r)) = isBadNumber (r .number) ≡ true
 Own (tok p open-tk) = Unit {0}
 Own (tok p close-tk) = Unit {0}
 Own (tok p comma-tk) = Unit {0}
 Own (tok p (number-tk q x)) = Unit {0}
 Own (tok p (word-tk w)) = Unit {0}
+
+bad-of : (e : ℕ) (is : List ℕ) → isBadNumber e ≡ true → oneOf e (28 ∷ 29 ∷ is) ≡ true
+bad-of e is w = go (eqb e 28) (eqb e 29) w
+  where
+    go : (a b : Bool) → (a || b) ≡ true → (a || (b || oneOf e is)) ≡ true
+    go true b h = refl
+    go false true h = refl
+    go false false h = absurd (false≢true h)
 
 bind-in : {A B : Type 0} (R : Ran A → Type 0) (T : Ran B → Type 0) (p : P A) (f : A → P B) (s : Str) → R (run p s) → ((x : A) (s1 : Str) → run p s ≡ ran x s1 → R (ran x s1) → T (run (f x) s1)) → T (run (bind p f) s)
 bind-in {A} {B} R T p f s h k = rw (run-bind p f s) (go (run p s) refl h)
@@ -117,10 +126,10 @@ module _ (N M : ℕ) (s₀ : Str) where
 
   -- at a token of the stream that can be at fault, the reading is stopped by a step that was due; or it is refused, with os still to be closed
   pub data Stopped : Refusal → Type 0 where
-    stopped-at : {e : ℕ} {t : Tok} → Among s₀ t → AtFault t e → Stopping N M s₀ t e → Stopped (refusal e (placeOf t))
+    stopped-at : {e : ℕ} {t : Tok} → Among s₀ t → AtFault t e (placeOf t) → Stopping N M s₀ t e → Stopped (refusal e (placeOf t))
 
   pub data Faulty (os : List Open) : Refusal → Str → Type 0 where
-    faulty : {e : ℕ} {t : Tok} {s : Str} → Among s₀ t → AtFault t e → Refusing N M s₀ os t e s → Faulty os (refusal e (placeOf t)) s
+    faulty : {e p : ℕ} {t : Tok} {s : Str} → Among s₀ t → AtFault t e p → Refusing N M s₀ os t e s → Faulty os (refusal e p) s
 
   -- what a reader comes to: C of the rows used and the tokens left; or it is refused, or stopped
   abbrev pub GotIn : List Open → (Out → Str → Type 0) → Ran Got → Type 0
@@ -137,7 +146,7 @@ module _ (N M : ℕ) (s₀ : Str) where
   here : {s : Str} → Reached s → Among s₀ (hd s)
   here r = record { index = r .0; is = ap hd (r .1) }
 
-  behind : {os : List Open} {k d e : ℕ} {r : Refusal} {s : Str} → Faulty (node k d ∷ os) r s → oneOf e (6 ∷ 13 ∷ []) ≡ true → Refusing N M s₀ os (hd s) e (tl s)
+  behind : {os : List Open} {k d e : ℕ} {r : Refusal} {s : Str} → Faulty (node k d ∷ os) r s → oneOf e (28 ∷ 29 ∷ 13 ∷ []) ≡ true → Refusing N M s₀ os (hd s) e (tl s)
   behind (faulty a f g) w = behind-refused g w
 
   own-stands : {os : List Open} {k d : ℕ} {r : Refusal} {s : Str} → Faulty (node k d ∷ os) r s → sortOf (hd s) ≡ sortClose → Faulty os r (tl s)
@@ -147,17 +156,21 @@ module _ (N M : ℕ) (s₀ : Str) where
     own-at : {s : Str} → Reached s → Own (hd s)
     own-at r = subst (λ (v : Str). Own (hd v)) (r .1) (own (r .0))
 
-    -- the refusal e at a token that was taken: 6 if it is a bad number
-    refused-at : {os : List Open} {s : Str} (e : ℕ) (t : Tok) → Among s₀ t → Own t → ((sortOf t ≡ sortBad → ⊥) → AtFault t e) → Refusing N M s₀ os t e s → Refusing N M s₀ os t 6 s → Faulty os (refusalAt e t) s
+    -- a step that refuses a bad number, with either number
+    abbrev Bad : List Open → Tok → Str → Type 0
+    Bad os t s = (e : ℕ) → isBadNumber e ≡ true → Refusing N M s₀ os t e s
+
+    -- the refusal e at a token that was taken: its own if it is a bad number
+    refused-at : {os : List Open} {s : Str} (e : ℕ) (t : Tok) → Among s₀ t → Own t → ((sortOf t ≡ sortBad → ⊥) → AtFault t e (placeOf t)) → Refusing N M s₀ os t e s → Bad os t s → Faulty os (refusalAt e t) s
     refused-at e (tok p none-tk) a w h g b = faulty a (h λ v. omega (arith, v)) g
-    refused-at e (tok p (bad-tk r)) a w h g b = rw w (faulty a (bad-number refl) b)
+    refused-at e (tok p (bad-tk r)) a w h g b = faulty a (bad-number refl w) (b (r .number) w)
     refused-at e (tok p open-tk) a w h g b = faulty a (h λ v. omega (arith, v)) g
     refused-at e (tok p close-tk) a w h g b = faulty a (h λ v. omega (arith, v)) g
     refused-at e (tok p comma-tk) a w h g b = faulty a (h λ v. omega (arith, v)) g
     refused-at e (tok p (number-tk q v)) a w h g b = faulty a (h λ v. omega (arith, v)) g
     refused-at e (tok p (word-tk v)) a w h g b = faulty a (h λ v. omega (arith, v)) g
 
-    at-token : {os : List Open} (e : ℕ) (s : Str) → Reached s → ((sortOf (hd s) ≡ sortBad → ⊥) → AtFault (hd s) e) → Refusing N M s₀ os (hd s) e (tl s) → Refusing N M s₀ os (hd s) 6 (tl s) → Reached (tl s) × Faulty os (refusalAt e (hd s)) (tl s)
+    at-token : {os : List Open} (e : ℕ) (s : Str) → Reached s → ((sortOf (hd s) ≡ sortBad → ⊥) → AtFault (hd s) e (placeOf (hd s))) → Refusing N M s₀ os (hd s) e (tl s) → Bad os (hd s) (tl s) → Reached (tl s) × Faulty os (refusalAt e (hd s)) (tl s)
     at-token e s r h g b = (next r, refused-at e (hd s) (here r) (own-at r) h g b)
 
     -- coordinates of a node of dimension d
@@ -173,17 +186,17 @@ module _ (N M : ℕ) (s₀ : Str) where
           either (ltb (length ss) M) (λ g. GotIn (node k d ∷ os) (Numbers (n + 1)) (ran g (tl s))) _ _ (λ l. number-taken c a w (ltb-true (length ss) M l))
           λ l. stopped-at (here (came-reached c)) (no-number w) (no-number-row c a w (omega (arith, came-fits c .1, ltb-false (length ss) M l)))
 
-      number-in : (n e : ℕ) → Axis d n e → oneOf e (6 ∷ e ∷ []) ≡ true → ((t : Tok) → Other sortNumber t → AtFault t e) → (o : Out) (s : Str) → Numbers n o s → GotIn (node k d ∷ os) (Numbers (n + 1)) (run (number M e o) s)
+      number-in : (n e : ℕ) → Axis d n e → oneOf e (28 ∷ 29 ∷ e ∷ []) ≡ true → ((t : Tok) → Other sortNumber t → AtFault t e (placeOf t)) → (o : Out) (s : Str) → Numbers n o s → GotIn (node k d ∷ os) (Numbers (n + 1)) (run (number M e o) s)
       unfolding number run
       number-in n e a w h o s c =
           either (eqb (sortOf (hd s)) sortNumber) (λ g. GotIn (node k d ∷ os) (Numbers (n + 1)) (ran g (tl s))) _ _ (λ q. add-in n e a o s c (eqb-true (sortOf (hd s)) sortNumber q))
-          λ q. at-token e s (came-reached c) (λ b. h (hd s) (b, eqb-false (sortOf (hd s)) sortNumber q)) (at-number c a w) (at-number c a refl)
+          λ q. at-token e s (came-reached c) (λ b. h (hd s) (b, eqb-false (sortOf (hd s)) sortNumber q)) (at-number c a w) λ i z. at-number c a (bad-of i (e ∷ []) z)
 
-      then-number : (n e : ℕ) → Axis d n e → oneOf e (6 ∷ e ∷ []) ≡ true → ((t : Tok) → Other sortNumber t → AtFault t e) → (r : Got) (s : Str) → GotIn (node k d ∷ os) (Numbers n) (ran r s) → GotIn (node k d ∷ os) (Numbers (n + 1)) (run (thenNumber M e r) s)
+      then-number : (n e : ℕ) → Axis d n e → oneOf e (28 ∷ 29 ∷ e ∷ []) ≡ true → ((t : Tok) → Other sortNumber t → AtFault t e (placeOf t)) → (r : Got) (s : Str) → GotIn (node k d ∷ os) (Numbers n) (ran r s) → GotIn (node k d ∷ os) (Numbers (n + 1)) (run (thenNumber M e r) s)
       unfolding thenNumber
       then-number n e a w h r s g = then-in (node k d ∷ os) (Numbers n) (Numbers (n + 1)) r _ s g λ o c. number-in n e a w h o s c
 
-      if-asked : (asked : Bool) (n e : ℕ) → (asked ≡ true → Axis d n e) → oneOf e (6 ∷ e ∷ []) ≡ true → ((t : Tok) → Other sortNumber t → AtFault t e) → (r : Got) (s : Str) → GotIn (node k d ∷ os) (Numbers n) (ran r s) → GotIn (node k d ∷ os) (Numbers (n + cond asked 1 0)) (run (ifAsked M asked e r) s)
+      if-asked : (asked : Bool) (n e : ℕ) → (asked ≡ true → Axis d n e) → oneOf e (28 ∷ 29 ∷ e ∷ []) ≡ true → ((t : Tok) → Other sortNumber t → AtFault t e (placeOf t)) → (r : Got) (s : Str) → GotIn (node k d ∷ os) (Numbers n) (ran r s) → GotIn (node k d ∷ os) (Numbers (n + cond asked 1 0)) (run (ifAsked M asked e r) s)
       unfolding ifAsked run
       if-asked true n e a w h r s g = then-number n e (a refl) w h r s g
       if-asked false n e a w h r s g = let z : n ≡ n + 0 = omega arith in subst (λ (i : ℕ). GotIn (node k d ∷ os) (Numbers i) (ran r s)) z g
@@ -225,10 +238,10 @@ module _ (N M : ℕ) (s₀ : Str) where
       unfolding closing run
       close-in (ok o) s c =
           either (eqb (sortOf (hd s)) sortClose) (λ g. GotIn os (At os read-whole) (ran g (tl s))) _ _ (λ e. close-taken c (eqb-true (sortOf (hd s)) sortClose e))
-          λ e. at-token 13 s (came-reached c) (λ b. not-closed (b, eqb-false (sortOf (hd s)) sortClose e)) (at-closing c refl) (at-closing c refl)
+          λ e. at-token 13 s (came-reached c) (λ b. not-closed (b, eqb-false (sortOf (hd s)) sortClose e)) (at-closing c refl) λ i z. at-closing c (bad-of i (13 ∷ []) z)
       close-in (refused r) s h =
           either (eqb (sortOf (hd s)) sortClose) (λ g. GotIn os (At os read-whole) (ran g (tl s))) _ _ (λ e. (next (h .0), own-stands (h .1) (eqb-true (sortOf (hd s)) sortClose e)))
-          λ e. at-token 13 s (h .0) (λ b. not-closed (b, eqb-false (sortOf (hd s)) sortClose e)) (behind (h .1) refl) (behind (h .1) refl)
+          λ e. at-token 13 s (h .0) (λ b. not-closed (b, eqb-false (sortOf (hd s)) sortClose e)) (behind (h .1) refl) λ i z. behind (h .1) (bad-of i (13 ∷ []) z)
       close-in (halt r) s h = h
 
     -- rows of nodes: where `(` was taken, where EMPTY was, and before a bare point
@@ -265,7 +278,7 @@ module _ (N M : ℕ) (s₀ : Str) where
       opener-in k d s i c =
           either (eqb (sortOf (hd s)) sortOpen) (λ h. HeadIn (ran h (tl s))) _ _ (λ e. opens-at c i (eqb-true (sortOf (hd s)) sortOpen e)) λ e.
           either (isEmptyTok (hd s)) (λ h. HeadIn (ran h (tl s))) _ _ (λ f. empty-at c f)
-          λ f. (let r = at-token 12 s (came-reached c) (λ b. not-opened (b, eqb-false (sortOf (hd s)) sortOpen e) f) (at-paren c refl) (at-paren c refl) in wrong-at (r .0) (r .1))
+          λ f. (let r = at-token 12 s (came-reached c) (λ b. not-opened (b, eqb-false (sortOf (hd s)) sortOpen e) f) (at-paren c refl) (λ i z. at-paren c (bad-of i (12 ∷ []) z)) in wrong-at (r .0) (r .1))
 
       ending-in : (k : ℕ) (s : Str) → K k → At os (header-due k) o s → sortOf (hd s) ≡ sortWord → (e : Ending) → ending (textOf (hd s)) ≡ e → HeadIn (run (headerEnding k (hd s) e) s)
       unfolding run
@@ -296,7 +309,7 @@ module _ (N M : ℕ) (s₀ : Str) where
     child-head os d o s c =
         either (eqb (sortOf (hd s)) sortWord) (λ p. HeadIn Known (node kindGeometryCollection d ∷ os) o (run p (tl s))) _ _
         (λ w. name-in (node kindGeometryCollection d ∷ os) o part-due s of-child c (at-child c refl) (eqb-true (sortOf (hd s)) sortWord w) (meaning (textOf (hd s))) refl)
-        λ w. (let r = at-token 18 s (came-reached c) (λ b. no-child (b, eqb-false (sortOf (hd s)) sortWord w)) (at-child c refl) (at-child c refl) in wrong-at (r .0) (r .1))
+        λ w. (let r = at-token 18 s (came-reached c) (λ b. no-child (b, eqb-false (sortOf (hd s)) sortWord w)) (at-child c refl) (λ i z. at-child c (bad-of i (9 ∷ 18 ∷ []) z)) in wrong-at (r .0) (r .1))
 
     root-head : (s : Str) → At [] root-due (out [] []) s → HeadIn Known [] (out [] []) (run rootHead s)
     unfolding rootHead run
@@ -305,7 +318,7 @@ module _ (N M : ℕ) (s₀ : Str) where
         (λ w. (let v : sortOf (hd s) ≡ sortWord = eqb-true (sortOf (hd s)) sortWord w in
         either (every isAscii (textOf (hd s))) (λ p. HeadIn Known [] (out [] []) (run p (tl s))) _ _ (λ i. name-in [] (out [] []) root-due s of-root c (at-root c refl) v (meaning (textOf (hd s))) refl)
         λ i. wrong-at (next (came-reached c)) (faulty (here (came-reached c)) (not-ascii v i) (at-root c refl))))
-        λ w. (let r = at-token 8 s (came-reached c) (λ b. no-root (b, eqb-false (sortOf (hd s)) sortWord w)) (at-root c refl) (at-root c refl) in wrong-at (r .0) (r .1))
+        λ w. (let r = at-token 8 s (came-reached c) (λ b. no-root (b, eqb-false (sortOf (hd s)) sortWord w)) (at-root c refl) (λ i z. at-root c (bad-of i (7 ∷ 8 ∷ 9 ∷ []) z)) in wrong-at (r .0) (r .1))
 
     -- the loops' count down is greater than there are tokens
     module _ (F : ℕ) (enough : size s₀ < F) where

@@ -1,6 +1,7 @@
 pub mod Calls
 pub mod Steps
 pub mod Faults
+pub mod Former
 pub mod Demand1
 pub mod Demand2
 pub mod Demand3
@@ -8,3 +9,4 @@ pub mod LaterBytes
 pub mod Rooms
 pub mod Stored
 pub mod StoredExamples
+pub mod FormerExamples

@@ -7,7 +7,7 @@ use mathlib.Core.List.{List, [], _∷_, _++_}
 use Prim.Native.Nat.{ℕ, _+_, _<_, _≤_}
 use lib.Dec.{eqb}
 use lib.ListN.{length}
-use Rattle.refusals.specs.Refusals.{noNodeRow, noNumberRow, tooDeep, badNumber, nonAsciiRoot, noRoot, unknownName, noHeader, unknownHeader, notOpened, notClosed, noX, noY, noZ, noM, noChild}
+use Rattle.refusals.specs.Refusals.{noNodeRow, noNumberRow, tooDeep, nonAsciiRoot, noRoot, unknownName, noHeader, unknownHeader, notOpened, notClosed, noX, noY, noZ, noM, noChild, nothingAfterPlus, numberGoesWrong}
 use Rattle.limits.specs.Limits.{depthLimit}
 use Rattle.kinds.specs.Kinds.{kindPoint, kindLineString, kindPolygon, kindMultiPoint, kindMultiLineString, kindMultiPolygon, kindGeometryCollection, dimXY, hasZ, hasM, width}
 use Rattle.names.specs.declared.Name.{Name}
@@ -103,16 +103,17 @@ module _ (N M : ℕ) (s₀ : Str) where
 
   -- the step that refuses, with one of its numbers, at a token; the nodes that are still to be closed, and the tokens that are left
   pub data Refusing : List Open → Tok → ℕ → Str → Type 0 where
-    -- "Root: a word. A non-ASCII word is refused 7; a bad number 6; no token or any other token 8." "Else refusal 9." "Collection: a word (else 18)"
-    at-root : {o : Out} {s : Str} {e : ℕ} → Came N M s₀ [] root-due o s → oneOf e (badNumber ∷ nonAsciiRoot ∷ noRoot ∷ unknownName ∷ []) ≡ true → Refusing [] (hd s) e (tl s)
-    at-child : {os : List Open} {o : Out} {s : Str} {d e : ℕ} → Came N M s₀ (node kindGeometryCollection d ∷ os) part-due o s → oneOf e (badNumber ∷ unknownName ∷ noChild ∷ []) ≡ true → Refusing (node kindGeometryCollection d ∷ os) (hd s) e (tl s)
+    -- "Root: a word. A non-ASCII word is refused 7; a bad number [28 or 29]; no token or any other token 8." "Else refusal 9." "Collection: a word (else 18)"
+    at-root : {o : Out} {s : Str} {e : ℕ} → Came N M s₀ [] root-due o s → oneOf e (nothingAfterPlus ∷ numberGoesWrong ∷ nonAsciiRoot ∷ noRoot ∷ unknownName ∷ []) ≡ true → Refusing [] (hd s) e (tl s)
+    at-child : {os : List Open} {o : Out} {s : Str} {d e : ℕ} → Came N M s₀ (node kindGeometryCollection d ∷ os) part-due o s → oneOf e (nothingAfterPlus ∷ numberGoesWrong ∷ unknownName ∷ noChild ∷ []) ≡ true → Refusing (node kindGeometryCollection d ∷ os) (hd s) e (tl s)
     -- "No token or a bad number: 10." "Another word: 11." (the token is only looked at) "Not `(`: 12."
     at-header : {os : List Open} {o : Out} {s : Str} {k e : ℕ} → Came N M s₀ os (header-due k) o s → oneOf e (noHeader ∷ unknownHeader ∷ []) ≡ true → Refusing os (hd s) e s
-    at-paren : {os : List Open} {o : Out} {s : Str} {k d e : ℕ} → Came N M s₀ os (paren-due k d) o s → oneOf e (badNumber ∷ notOpened ∷ []) ≡ true → Refusing os (hd s) e (tl s)
+    at-paren : {os : List Open} {o : Out} {s : Str} {k d e : ℕ} → Came N M s₀ os (paren-due k d) o s → oneOf e (nothingAfterPlus ∷ numberGoesWrong ∷ notOpened ∷ []) ≡ true → Refusing os (hd s) e (tl s)
     -- "(14, 15, 16, 17)"
-    at-number : {os : List Open} {o : Out} {s : Str} {k d n i e : ℕ} → Came N M s₀ (node k d ∷ os) (number-due n) o s → Axis d n i → oneOf e (badNumber ∷ i ∷ []) ≡ true → Refusing (node k d ∷ os) (hd s) e (tl s)
-    -- "After the body one token is always taken, even when the body was refused. A bad number there gives 6; anything but `)` gives 13"
-    at-closing : {os : List Open} {o : Out} {s : Str} {k d e : ℕ} → Came N M s₀ (node k d ∷ os) read-whole o s → oneOf e (badNumber ∷ notClosed ∷ []) ≡ true → Refusing os (hd s) e (tl s)
-    behind-refused : {os : List Open} {s : Str} {t : Tok} {k d i e : ℕ} → Refusing (node k d ∷ os) t i s → oneOf e (badNumber ∷ notClosed ∷ []) ≡ true → Refusing os (hd s) e (tl s)
+    at-number : {os : List Open} {o : Out} {s : Str} {k d n i e : ℕ} → Came N M s₀ (node k d ∷ os) (number-due n) o s → Axis d n i → oneOf e (nothingAfterPlus ∷ numberGoesWrong ∷ i ∷ []) ≡ true → Refusing (node k d ∷ os) (hd s) e (tl s)
+    -- "After the body one token is always taken, even when the body was refused. A bad number there gives [28 or 29]; anything but `)` gives 13"; "the
+    -- closing-token rule is unchanged" (document 02)
+    at-closing : {os : List Open} {o : Out} {s : Str} {k d e : ℕ} → Came N M s₀ (node k d ∷ os) read-whole o s → oneOf e (nothingAfterPlus ∷ numberGoesWrong ∷ notClosed ∷ []) ≡ true → Refusing os (hd s) e (tl s)
+    behind-refused : {os : List Open} {s : Str} {t : Tok} {k d i e : ℕ} → Refusing (node k d ∷ os) t i s → oneOf e (nothingAfterPlus ∷ numberGoesWrong ∷ notClosed ∷ []) ≡ true → Refusing os (hd s) e (tl s)
     -- "only with `)` does the body's own answer stand"
     stands : {os : List Open} {s : Str} {t : Tok} {k d e : ℕ} → Refusing (node k d ∷ os) t e s → sortOf (hd s) ≡ sortClose → Refusing os t e (tl s)

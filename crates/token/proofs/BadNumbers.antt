@@ -9,16 +9,17 @@ use native.Mathlib.Omega.{arith}
 use lib.ListN.{length, getD, take, drop, length-drop}
 use lib.Seq.{length-take-le}
 use Rattle.lists.proofs.Cases.{either}
-use Rattle.scan.specs.Bytes.{isInner, isPlus}
+use borrow.Author.Tests.{eqb-true}
+use Rattle.scan.specs.Bytes.{plus, isInner, isPlus}
 use Rattle.scan.specs.Front.{part, afterOne, isNil}
 use Rattle.scan.specs.Runs.{firstNot, afterOneAt}
 use Rattle.scan.proofs.Bytes.{plus-inner}
 use Rattle.scan.proofs.Front.{part-first, part-none}
-use Rattle.scan.proofs.Runs.{past, not-past, scan-one, part-one, one-end, one-not-before}
+use Rattle.scan.proofs.Runs.{on, past, not-before, not-past, scan-one, part-one, one-off, one-end, one-not-before}
 use Rattle.bad_numbers.specs.Openings.{goesWrong}
-use Rattle.bad_numbers.proofs.Openings.{wrong-within}
+use Rattle.bad_numbers.proofs.Openings.{wrong-within, goes-wrong-at}
 use Rattle.token.specs.declared.Refusal.{Refusal}
-use Rattle.token.specs.Tokens.{isBadNumber, endOf, textStart, nothingLeft, goneWrong, wrongNumberAt, badAt}
+use Rattle.token.specs.Tokens.{isBadNumber, endOf, textStart, nothingLeft, goneWrong, wrongNumberAt, badAt, numberText, WrongNumber, nothing-left, goes-wrong}
 
 module _ (text : List ℕ) (p : ℕ) where
   same-end : endOf text (textStart text p) ≡ endOf text p
@@ -88,3 +89,24 @@ wrong-in p (b ∷ l) = go (isPlus b)
     go : (x : Bool) → WrongIn p (b ∷ l) (cond (isNil (cond x l (b ∷ l))) (nothingLeft p) (goneWrong (cond x (0 + 1) 0 + p + goesWrong (cond x l (b ∷ l)))))
     go true = either (isNil l) (WrongIn p (b ∷ l)) _ _ (λ e. (refl, omega arith)) λ e. (refl, omega (arith, wrong-within l))
     go false = (refl, omega (arith, wrong-within (b ∷ l)))
+
+-- ---- and over the grammar: what a number token that is no lexeme is refused with
+module _ (text : List ℕ) (p : ℕ) (inner : isInner (getD text p 0) ≡ true) (inside : p < length text) where
+  more-than-plus : isPlus (getD text p 0) ≡ false → textStart text p < endOf text (textStart text p)
+  more-than-plus n =
+      let z : p ≡ textStart text p = one-off isPlus text p n in
+      rw (← z) (omega (arith, on isInner text p inside inner, not-before isInner text (p + 1) (omega arith)))
+
+  pub told : WrongNumber text p (badAt text p)
+  told = go (decLt (textStart text p) (endOf text (textStart text p)))
+    where
+      some : textStart text p < endOf text (textStart text p) → 0 < length (numberText text p)
+      some l = rw (part-first text (textStart text p) (endOf text (textStart text p)) (omega (arith, not-past isInner text (textStart text p))) l) (omega arith)
+
+      is-plus : (b : Bool) → isPlus (getD text p 0) ≡ b → (textStart text p < endOf text (textStart text p) → ⊥) → getD text p 0 ≡ plus
+      is-plus true e l = eqb-true (getD text p 0) plus e
+      is-plus false e l = absurd (l (more-than-plus e))
+
+      go : Dec (textStart text p < endOf text (textStart text p)) → WrongNumber text p (badAt text p)
+      go (yes l) = rw (← gone-is text p _ _ refl refl l _ refl) (goes-wrong (some l) (goes-wrong-at (numberText text p)))
+      go (no l) = rw (← nothing-is text p _ _ refl refl (omega arith)) (nothing-left (is-plus (isPlus (getD text p 0)) refl l) (part-none text (textStart text p) (endOf text (textStart text p)) (omega arith)))

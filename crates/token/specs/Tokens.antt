@@ -1,14 +1,15 @@
 -- What a demand for a token finds (document 01, "Tokens").
-use Prim.Native.Nat.{ℕ, _+_, _-_}
+use Prim.Native.Nat.{ℕ, _+_, _-_, _<_}
+use mathlib.Core.Path.{_≡_}
 use mathlib.Core.Bool.{Bool, true, false, cond, _||_}
-use mathlib.Core.List.{List}
+use mathlib.Core.List.{List, []}
 use lib.ListN.{length, getD}
 use lib.Dec.{eqb, leb}
-use Rattle.scan.specs.Bytes.{nul, parenOpen, parenClose, comma, isBlank, isInner, isNumberlike, isPlus}
+use Rattle.scan.specs.Bytes.{nul, parenOpen, parenClose, comma, plus, isBlank, isInner, isNumberlike, isPlus}
 use Rattle.scan.specs.Front.{part, afterOne, isNil}
 use Rattle.scan.specs.Runs.{firstNot, afterOneAt}
 use Rattle.refusals.specs.Refusals.{badNumber, nothingAfterPlus, numberGoesWrong}
-use Rattle.bad_numbers.specs.Openings.{goesWrong}
+use Rattle.bad_numbers.specs.Openings.{GoesWrongAt, goesWrong}
 use Rattle.number.specs.declared.Lexeme.{Lexeme}
 use Rattle.number.specs.Lexeme.{isLexeme, upToStop}
 use Rattle.token.specs.declared.Token.the-variants.{Comma, Number, ParenClose, ParenOpen, Word}
@@ -22,6 +23,10 @@ read f i = record { found = f; at = i }
 -- where the number or the word at p ends
 abbrev pub endOf : List ℕ → ℕ → ℕ
 endOf text p = firstNot isInner text p
+
+-- "One leading `+` is dropped": where the text of the number at p starts
+abbrev pub textStart : List ℕ → ℕ → ℕ
+textStart text p = afterOneAt isPlus text p
 
 -- Document 01 as it was before request 2026-02: "A bad number that is taken gives 6", and the place is "the start of the token at fault (a `+` counts as its
 -- start)". It is given no more, and stands here for what is said of the change (grammar/specs/Former).
@@ -49,13 +54,18 @@ wrongNumberAt p run =
 unfoldable pub badAt : List ℕ → ℕ → Refusal
 badAt text p = wrongNumberAt p (part text p (endOf text p))
 
+-- "The kept number text is what follows the dropped `+`.": of the number at p
+abbrev pub numberText : List ℕ → ℕ → List ℕ
+numberText text p = part text (textStart text p) (endOf text (textStart text p))
+
+-- the same said over the grammar: of a number token at p nothing is left after its plus, or it goes wrong n bytes behind it
+pub data WrongNumber (text : List ℕ) (p : ℕ) : Refusal → Type 0 where
+  nothing-left : getD text p 0 ≡ plus → numberText text p ≡ [] → WrongNumber text p (nothingLeft p)
+  goes-wrong : {n : ℕ} → 0 < length (numberText text p) → GoesWrongAt (numberText text p) n → WrongNumber text p (goneWrong (textStart text p + n))
+
 -- "Both run to a blank (taken too) or to NUL, `(`, `)` or `,` (not taken)."
 abbrev pub afterBlank : List ℕ → ℕ → ℕ
 afterBlank text end = afterOneAt isBlank text end
-
--- "One leading `+` is dropped": where the text of the number at p starts
-abbrev pub textStart : List ℕ → ℕ → ℕ
-textStart text p = afterOneAt isPlus text p
 
 -- "and the rest must be a lexeme"
 abbrev pub numberOr : Bool → ℕ → ℕ → ℕ → Found

@@ -24,8 +24,8 @@ returns-2 c = decimal-past _ _ _ _ _ (c .before .before .before .before .before 
 shared-slice-read-b : tie.Need-shared-slice-read-b
 shared-slice-read-b c = search needs
 
-add-after-sign : tie.Need-add-after-sign
-add-after-sign c = search needs
+add-behind : tie.Need-add-behind
+add-behind c = search needs
 
 after-sign-requires : tie.Need-after-sign-requires
 after-sign-requires c κs = search needs
@@ -50,7 +50,7 @@ decimal-end-spec =
     returns
     returns-2
     shared-slice-read-b
-    add-after-sign
+    add-behind
     after-sign-requires
     digits-end-requires-3
     returns-3
