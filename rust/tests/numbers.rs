@@ -141,7 +141,7 @@ fn of_other_refusals_nothing_is_told() {
     }
 }
 
-/// Texts from pieces, by a counter: every one of the pieces three times over, in each of a few frames.
+/// Every text of four pieces, in each of a few frames: 253,125 in all.
 #[test]
 fn six_is_never_answered() {
     let pieces = [

@@ -1,3 +1,4 @@
 pub mod Laws
+pub mod Tokens
 pub mod There
 pub mod OneOutcome

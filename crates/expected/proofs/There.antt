@@ -4,7 +4,6 @@ use mathlib.Core.Path.{_≡_, refl, sym, ap, _∙_}
 use mathlib.Core.Bool.{Bool, true, false, cond}
 use mathlib.Core.List.{List, [], _∷_}
 use Prim.Native.Nat.{ℕ, zero, suc, _+_, _-_, _≤_, _<_, min}
-use native.Mathlib.Numerals.{unary-clauses}
 use native.Mathlib.Omega.{arith}
 use lib.ListN.{length, getD, take, drop, length-drop}
 use lib.Seq.{length-take-le, take-take, getD-drop}
@@ -15,18 +14,8 @@ use Rattle.scan.proofs.Bytes.{plus-inner}
 use Rattle.scan.proofs.Runs.{not-before, not-past, scan-one, one-not-before, one-not-past}
 use Rattle.bad_numbers.specs.Openings.{goesWrong}
 use Rattle.bad_numbers.proofs.Openings.{wrong-within}
-use Rattle.expected.specs.Expected.{expectedAfter, runStart, expectedAt}
-
--- a token that isn't a mark begins at the text's start or behind a stop
-abbrev pub AtRun : List ℕ → ℕ → Type 0
-AtRun text zero = Unit {0}
-AtRun text (suc q) = isInner (getD text q 0) ≡ false
-
-run-start : (text : List ℕ) (p n : ℕ) → AtRun text p → ((i : ℕ) → i < n → isInner (getD text (p + i) 0) ≡ true) → runStart text (p + n) ≡ p
-unfolding runStart
-run-start text zero zero a h = refl
-run-start text (suc q) zero a h = simp unary-clauses (rw a)
-run-start text p (suc n) a h = simp unary-clauses (rw (h n (omega arith)) (run-start text p n a λ i l. h i (omega arith)))
+use Rattle.expected.specs.Expected.{expectedAfter, expectedAt}
+use Rattle.expected.proofs.Tokens.{Begins, expected-of-token}
 
 -- every byte of a run passes
 run-passes : (q : ℕ → Bool) (l : List ℕ) (i : ℕ) → i < run q l → q (getD l i 0) ≡ true
@@ -39,7 +28,7 @@ run-passes q (b ∷ l) i h = go (q b) refl i h (run-passes q l)
     go true e (suc j) h r = r j (omega arith)
     go false e i h r = absurd (omega arith)
 
-module _ (text : List ℕ) (p : ℕ) (inside : p ≤ length text) (begins : AtRun text p) where
+module _ (text : List ℕ) (p : ℕ) (inside : p ≤ length text) (begins : Begins text p) where
   abbrev start : ℕ
   start = afterOneAt isPlus text p
 
@@ -69,11 +58,10 @@ module _ (text : List ℕ) (p : ℕ) (inside : p ≤ length text) (begins : AtRu
   unfolding wide
   place-is = omega (arith, one-not-before isPlus text p refl)
 
-  starts : runStart text (start + goesWrong number) ≡ p
-  starts = ap (runStart text) place-is ∙ run-start text p wide begins λ i l. inner-at i (omega (arith, within))
-
   pub there : expectedAt text (start + goesWrong number) ≡ expectedAfter (take (goesWrong number) number)
-  unfolding expectedAt
   there =
       let few : (start + goesWrong number) - start ≡ goesWrong number = omega arith in
-      rw (starts, few) (ap expectedAfter (sym (take-take (goesWrong number) (firstNot isInner text start - start) (drop start text) (omega (arith, wrong-within number, number-length)))))
+      let told : expectedAt text (p + wide) ≡ expectedAfter (part text start (p + wide)) = expected-of-token text p begins wide λ i l. inner-at i (omega (arith, within)) in
+      ap (expectedAt text) place-is ∙ told ∙ ap (λ (k : ℕ). expectedAfter (part text start k)) (sym place-is)
+      ∙ ap (λ (k : ℕ). expectedAfter (take k (drop start text))) few
+      ∙ ap expectedAfter (sym (take-take (goesWrong number) (firstNot isInner text start - start) (drop start text) (omega (arith, wrong-within number, number-length))))
