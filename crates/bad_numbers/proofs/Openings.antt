@@ -10,7 +10,7 @@ use lib.Dec.{eqb}
 use lib.ListN.{length, take, drop, take-append-drop}
 use lib.Seq.{take-take}
 use borrow.Author.Tests.{eqb-true, eq-eqb}
-use Rattle.lists.proofs.Cases.{either}
+use Rattle.lists.proofs.Cases.{either, or-left, or-right}
 use Rattle.scan.specs.Text.{bytes}
 use Rattle.scan.specs.Bytes.{isSign}
 use Rattle.scan.specs.Front.{begins, afterOne, afterAll, isNil}
@@ -22,14 +22,6 @@ use Rattle.number.specs.Lexeme.{inf, infinity, nan, isNamed, isExponent, isDeci
 use Rattle.number.proofs.Equal.{passes, sound}
 use Rattle.bad_numbers.specs.Openings.{Opens, GoesWrongAt, opensDecimal, opensWord, opens, longestUpTo, longest, goesWrong}
 use Rattle.bad_numbers.proofs.Decimals.{decimal-opens}
-
--- ---- a choice of tests
-or-left : (a b : Bool) → a ≡ true → (a || b) ≡ true
-or-left a b e = rw e
-
-or-right : (a b : Bool) → b ≡ true → (a || b) ≡ true
-or-right true b e = refl
-or-right false b e = e
 
 -- ---- words: what begins so, and what stands behind it
 same-byte : (a b : ℕ) → sameByte a b ≡ true → sameByte b a ≡ true

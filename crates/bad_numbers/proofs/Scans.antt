@@ -19,6 +19,7 @@ use Rattle.scan.proofs.Front.{rest-in, rest-past, rest-zero, begins-at, begins-
 use Rattle.scan.proofs.Runs.{not-before, not-past, first-fails, rest-run, moves, one-not-past}
 use Rattle.words.specs.Words.{upper, sameByte, startsWord}
 use Rattle.number.specs.Lexeme.{isE, inf, infinity, nan, isDecimal, isExponent}
+use Rattle.number.proofs.Text.{low}
 use Rattle.bad_numbers.specs.Openings.{opensDecimal, opensWord, opens, longestUpTo, longest, goesWrong}
 use Rattle.bad_numbers.proofs.Decimals.{State, none-yet, digits, lone-point, fraction, after-e, after-e-sign, exponent, stuck, next, after, isLive, after-stuck, opens-live, decimal-front}
 use Rattle.bad_numbers.proofs.Openings.{up-to-within, up-to-passes, longest-is, longest-more, opens-front}
@@ -376,9 +377,6 @@ number-is (b ∷ l) at e = go (isSign b) refl
     go false s = let z : at ≡ 0 = e ∙ rw s in rw z (sign-no b l s ∙ omega arith)
 
 -- a digit or a point begins no word, and any other byte no decimal
-low : (b : ℕ) → (isDigit b || isPoint b) ≡ true → b ≤ 57
-low b e = or-elim (isDigit b) (isPoint b) (digit-high b) (λ p. omega (arith, eqb-true b 46 p)) e
-
 no-letter : (b k : ℕ) → b ≤ 57 → 57 < k → eqb k (upper b) ≡ false
 no-letter b k h l = rw (lt-leb 97 b (omega arith)) (ne-eqb k b (λ e. omega arith))
 

@@ -21,7 +21,7 @@ use Rattle.token.specs.declared.Refusal.{Refusal}
 use Rattle.token.specs.Tokens.{readAt}
 use Rattle.tokenizer.specs.Tokens.{takeHeld, hold, step, cursorAt}
 use Rattle.token_stream.proofs.Stream.{take-head, take-tail, look-head, look-same}
-use Rattle.lists.proofs.Cases.{either}
+use Rattle.lists.proofs.Cases.{either, or-left, or-right}
 use Rattle.store.specs.Rows.{Row, nodeRoom, numberRoom, zeros, padded}
 use Rattle.store.proofs.Rows.{rows-length}
 use Rattle.infer_type.specs.declared.Inferred.{Inferred}
@@ -71,14 +71,6 @@ one-reading text ns ms a ns′ ms′ c ns″ ms″ x y = leaves-one x y
 
 pub one-written : OneWritten
 one-written text nodes numbers room r r′ bytes bytes′ x y = writes-one x y
-
-or-left : (a b : Bool) → a ≡ true → (a || b) ≡ true
-or-left true b e = refl
-or-left false b e = absurd (false≢true e)
-
-or-right : (a b : Bool) → b ≡ true → (a || b) ≡ true
-or-right true b e = refl
-or-right false b e = e
 
 all-zero : (n : ℕ) → padded [] n ≡ zeros n
 all-zero n = let z : n - 0 ≡ n = omega arith in ap zeros z

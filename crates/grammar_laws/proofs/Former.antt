@@ -17,7 +17,7 @@ use Rattle.kinds.specs.Kinds.{kindPoint, kindLineString, kindPolygon, kindMulti
 use Rattle.names.specs.Names.{meaning, ending, isEmptyWord}
 use Rattle.scan.specs.Bytes.{isAscii}
 use Rattle.lists.specs.Lists.{every}
-use Rattle.lists.proofs.Cases.{either, and-both}
+use Rattle.lists.proofs.Cases.{either, and-both, or-right}
 use Rattle.limits.specs.Limits.{textLimit, overLimit, depthLimit}
 use Rattle.utf8.specs.Utf8.{isUtf8, firstIll}
 use Rattle.refusals.specs.Refusals.{noNodeRow, tooDeep, badNumber, noChild, nothingAfterPlus, numberGoesWrong}
@@ -40,7 +40,6 @@ use Rattle.grammar.specs.Answers.{isHalt}
 use Rattle.grammar.specs.Former.{tokWith, strWith, former, formerReading, renewal, gotWith, renewed, numberIn, saysBad, Change, renews, stays}
 use Rattle.grammar_laws.proofs.Asks.{after, run-bind}
 use Rattle.grammar_laws.proofs.Fuel.{reading-halts}
-use Rattle.grammar_laws.proofs.Lexemes.{or-right}
 
 -- the numbers that a reading gives of itself: all but a bad number's
 abbrev pub isOwn : ℕ → Bool

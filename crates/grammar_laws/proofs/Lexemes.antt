@@ -8,6 +8,7 @@ use Prim.Native.Nat.{ℕ, _-_}
 use native.Mathlib.Omega.{arith}
 use lib.Dec.{eqb, leb}
 use borrow.Author.Tests.{le-leb, eqb-true}
+use Rattle.lists.proofs.Cases.{or-right}
 use Rattle.scan.specs.Bytes.{isInner, isDigit, isSign, isPoint, isNumberlike, plus, minus, point, isAscii}
 use Rattle.scan.specs.Runs.{Many, none, more}
 use Rattle.scan.proofs.Bytes.{or-elim, digit-high, digit-inner, sign-inner, point-inner}
@@ -32,10 +33,6 @@ isNumberByte b = isNumberlike b || isLetter b
 
 digit-byte : (b : ℕ) → isDigit b ≡ true → isNumberByte b ≡ true
 digit-byte b e = rw e
-
-pub or-right : (a b : Bool) → b ≡ true → (a || b) ≡ true
-or-right true b e = refl
-or-right false b e = e
 
 sign-byte : (b : ℕ) → isSign b ≡ true → isNumberByte b ≡ true
 sign-byte b e = or-elim (eqb b plus) (eqb b minus) (λ z. ap isNumberByte (eqb-true b plus z)) (λ z. ap isNumberByte (eqb-true b minus z)) e

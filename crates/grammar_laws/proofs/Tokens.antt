@@ -15,11 +15,10 @@ use Rattle.token.specs.Tokens.{isBadNumber, wrongNumberAt}
 use Rattle.token.proofs.BadNumbers.{wrong-in}
 use Rattle.token_stream.specs.Stream.{Tk, open-tk, close-tk, comma-tk, none-tk, bad-tk, word-tk, number-tk, Tok, tok, Str, end, then, hd, tl}
 use Rattle.token_stream.specs.Lex.{markTk, numberTk, runTk, Lexed, lexed, flush, push, lexByte, lexRun, lex}
-use Rattle.lists.proofs.Cases.{either}
+use Rattle.lists.proofs.Cases.{either, or-right}
 use Rattle.grammar.specs.Tokens.{sortNone, sortNumber, sortOf, placeOf, startOf, textOf, refusalAt}
 use Rattle.grammar.specs.Answers.{isRefusal, Refused}
 use Rattle.tree.specs.TreeIn.{NumberIn}
-use Rattle.grammar_laws.proofs.Lexemes.{or-right}
 
 -- the two numbers of a bad number are of the table
 bad-refusal : (e : ℕ) → isBadNumber e ≡ true → isRefusal e ≡ true

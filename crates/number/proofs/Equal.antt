@@ -8,6 +8,7 @@ use Prim.Native.Nat.{ℕ, suc, _≤_, _<_}
 use native.Mathlib.Omega.{arith}
 use lib.Dec.{eqb, leb}
 use borrow.Author.Tests.{leb-true, eqb-true, ne-eqb, eqb-false}
+use Rattle.lists.proofs.Cases.{or-left, or-right}
 use Rattle.scan.specs.Bytes.{isDigit, isSign, isPoint}
 use Rattle.scan.specs.Front.{begins, afterOne, afterAll, isNil}
 use Rattle.scan.specs.Runs.{Many, none, more}
@@ -18,10 +19,6 @@ use Rattle.number.proofs.Stop.{all-none, one-none}
 use Rattle.number.specs.Grammar.{OneByte, one, _then_, both, _or_, this, that, Maybe, absent, present, Named, named, Sign, Point, Digits, Digits1, Exp, Number, Unsigned, Float}
 
 -- bytes of different kinds
-or-right : (a b : Bool) → b ≡ true → (a || b) ≡ true
-or-right true b e = refl
-or-right false b e = e
-
 pub digit-sign : (b : ℕ) → isDigit b ≡ true → isSign b ≡ false
 digit-sign b e =
     let low = digit-low b e in
@@ -145,9 +142,6 @@ unsigned-sign {l} (this (named e)) = named-sign l _ _ (λ q. omega arith) (λ q.
 unsigned-sign {l} (that (this (named e))) = named-sign l _ _ (λ q. omega arith) (λ q. omega arith) e
 unsigned-sign {l} (that (that (this (named e)))) = named-sign l _ _ (λ q. omega arith) (λ q. omega arith) e
 unsigned-sign (that (that (that n))) = number-sign n
-
-or-left : (a b : Bool) → a ≡ true → (a || b) ≡ true
-or-left a b e = rw e
 
 unsigned-passes : {l : List ℕ} → Unsigned l → isUnsigned l ≡ true
 unfolding isUnsigned isNamed

@@ -87,7 +87,7 @@ module _ (text : List ℕ) where
 no-letter : (b k : ℕ) → b ≤ 57 → 57 < k → eqb (upper b) k ≡ false
 no-letter b k h l = rw (lt-leb 97 b (omega arith)) (ne-eqb b k (λ e. omega arith))
 
-low : (b : ℕ) → (isDigit b || isPoint b) ≡ true → b ≤ 57
+pub low : (b : ℕ) → (isDigit b || isPoint b) ≡ true → b ≤ 57
 low b e = or-elim (isDigit b) (isPoint b) (digit-high b) (λ p. omega (arith, eqb-true b 46 p)) e
 
 not-named : (b : ℕ) (l : List ℕ) → (isDigit b || isPoint b) ≡ true → isNamed (b ∷ l) ≡ false
