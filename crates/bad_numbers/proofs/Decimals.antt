@@ -1,12 +1,12 @@
 -- A decimal byte by byte: how far it has come, as a state; a decimal is read exactly where its last state is a whole one, and can go on exactly where it isn't stuck.
 -- Assumes nothing.
 use mathlib.Core.Path.{_≡_, refl, sym, ap, _∙_}
-use mathlib.Core.Bool.{Bool, true, false, cond, _||_, _&&_, false≢true}
+use mathlib.Core.Bool.{Bool, true, false, cond, _||_, _&&_}
 use mathlib.Core.List.{List, [], _∷_, _++_}
 use Prim.Native.Nat.{ℕ}
 use Rattle.scan.specs.Bytes.{isDigit, isSign, isPoint}
 use Rattle.scan.specs.Front.{begins, afterOne, afterAll, isNil}
-use Rattle.number.specs.Lexeme.{isE, afterWhole, hasDigit, isDigits, isExponent, isDecimal}
+use Rattle.number.specs.Lexeme.{isE, afterWhole, isDigits, isExponent, isDecimal}
 use Rattle.bad_numbers.specs.Openings.{opensDecimal}
 
 -- nothing yet; digits; a point and no digit; digits and a point; `e`; `e` and a sign; an exponent's digits; no decimal begins so

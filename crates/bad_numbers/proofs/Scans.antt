@@ -1,21 +1,21 @@
 -- Where the scans of the code end: at the place where a decimal, a word, a number goes wrong.
 -- Assumes nothing.
 use mathlib.Core.Path.{_≡_, refl, sym, ap, _∙_}
-use mathlib.Core.Bool.{Bool, true, false, cond, _||_, _&&_, false≢true, and-eq-true-iff}
+use mathlib.Core.Bool.{Bool, true, false, cond, _||_, false≢true, and-eq-true-iff}
 use mathlib.Core.List.{List, [], _∷_, _++_}
-use Prim.Native.Nat.{ℕ, zero, suc, _+_, _-_, _≤_, _<_, min}
+use Prim.Native.Nat.{ℕ, zero, suc, _+_, _-_, _≤_, _<_}
 use native.Mathlib.Decide.{decLt}
 use native.Mathlib.Numerals.{add-one}
 use native.Mathlib.Omega.{arith}
-use lib.Dec.{eqb, leb, ltb}
+use lib.Dec.{eqb, ltb}
 use lib.ListN.{length, getD, take, drop, length-drop, List·getD-eq-default}
-use borrow.Author.Tests.{ltb-false, eqb-true, ne-eqb, lt-leb}
+use borrow.Author.Tests.{ltb-false, ne-eqb, lt-leb}
 use Rattle.lists.proofs.Cases.{either}
 use Rattle.scan.specs.Bytes.{isDigit, isSign, isPoint}
 use Rattle.scan.specs.Front.{rest, part, begins, afterOne, afterAll, isNil}
 use Rattle.scan.specs.Runs.{run, firstNot, afterOneAt}
-use Rattle.scan.proofs.Bytes.{or-elim, digit-high}
-use Rattle.scan.proofs.Front.{rest-in, rest-past, rest-zero, begins-at, begins-past}
+use Rattle.scan.proofs.Bytes.{or-elim}
+use Rattle.scan.proofs.Front.{rest-in, rest-past, begins-at, begins-past}
 use Rattle.scan.proofs.Runs.{not-before, not-past, first-fails, rest-run, moves, one-not-past}
 use Rattle.words.specs.Words.{upper, sameByte, startsWord}
 use Rattle.number.specs.Lexeme.{isE, inf, infinity, nan, isDecimal, isExponent}

@@ -1,14 +1,14 @@
 -- Laws of what was expected: one for each answer of the code.
 -- Assumes nothing.
-use mathlib.Core.Path.{_≡_, refl, sym, ap, _∙_}
-use mathlib.Core.Bool.{Bool, true, false, cond, not}
-use mathlib.Core.List.{List, []}
+use mathlib.Core.Path.{_≡_, refl, ap, _∙_}
+use mathlib.Core.Bool.{true, false}
+use mathlib.Core.List.{List}
 use Prim.Native.Nat.{ℕ, zero, suc, _-_, _≤_, _<_}
 use native.Mathlib.Decide.{decLt}
 use native.Mathlib.Omega.{arith}
 use lib.ListN.{length, getD, List·getD-eq-default}
 use borrow.Author.Tests.{le-leb, lt-leb, ne-eqb}
-use Rattle.scan.specs.Bytes.{isStop, isInner, isPlus, isSign}
+use Rattle.scan.specs.Bytes.{isStop, isPlus, isSign}
 use Rattle.scan.specs.Front.{rest, part, begins, afterOne, afterAll, isNil}
 use Rattle.scan.specs.Runs.{afterOneAt}
 use Rattle.scan.proofs.Front.{tail-part, rest-zero, nil-at, part-none}

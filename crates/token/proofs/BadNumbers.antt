@@ -6,13 +6,13 @@ use mathlib.Core.List.{List, [], _∷_}
 use Prim.Native.Nat.{ℕ, _+_, _-_, _≤_, _<_}
 use native.Mathlib.Decide.{decLt}
 use native.Mathlib.Omega.{arith}
-use lib.ListN.{length, getD, take, drop, length-drop}
+use lib.ListN.{length, getD, drop, length-drop}
 use lib.Seq.{length-take-le}
 use Rattle.lists.proofs.Cases.{either}
 use borrow.Author.Tests.{eqb-true}
 use Rattle.scan.specs.Bytes.{plus, isInner, isPlus}
 use Rattle.scan.specs.Front.{part, afterOne, isNil}
-use Rattle.scan.specs.Runs.{firstNot, afterOneAt}
+use Rattle.scan.specs.Runs.{afterOneAt}
 use Rattle.scan.proofs.Bytes.{plus-inner}
 use Rattle.scan.proofs.Front.{part-first, part-none}
 use Rattle.scan.proofs.Runs.{on, past, not-before, not-past, scan-one, part-one, one-off, one-end, one-not-before}
