@@ -18,7 +18,7 @@ pub fn opens_word(w: &[u8]) -> bool
     starts_with_word(b"inf", w) | starts_with_word(b"infinity", w) | starts_with_word(b"nan", w)
 }
 
-// Where what stands at `at` can be no word any more.
+// Where what stands at `at` can be no word any more. A word has eight letters at most, so the loop is short.
 fn word_end(w: &[u8], at: usize) -> usize
     requires { ⌜ at ≤ length (now w) ⌝ }
     ensures { λ r. ⌜ r ≡ at + longest opensWord (rest (now (w .entry)) at) ⌝ }

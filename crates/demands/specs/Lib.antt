@@ -1,6 +1,7 @@
 pub mod Calls
 pub mod Steps
 pub mod Faults
+pub mod Numbers
 pub mod Former
 pub mod Demand1
 pub mod Demand2
