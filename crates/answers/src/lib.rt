@@ -114,28 +114,20 @@ pub fn closing(text: &[u8], nodes: &mut [u32], row: usize, parts: u32, s: State)
     let used = s.numbers;
     // Most often it is held, or stands right behind the body.
     let closes = cursor.closes(text);
-    if closes.close {
-        return ended(
-            nodes,
-            row,
-            parts,
-            Spot {
-                at: closes.at,
-                nodes: rows,
-                numbers: used,
-            },
-        );
-    }
-    let token = sorts::take(text, cursor);
-    if token.sort != CLOSE {
-        return not_closed(text, token);
+    let mut at = closes.at;
+    if !closes.close {
+        let token = sorts::take(text, cursor);
+        if token.sort != CLOSE {
+            return not_closed(text, token);
+        }
+        at = token.at;
     }
     ended(
         nodes,
         row,
         parts,
         Spot {
-            at: token.at,
+            at,
             nodes: rows,
             numbers: used,
         },
