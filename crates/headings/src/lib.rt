@@ -9,18 +9,24 @@ use refusals::NON_ASCII_ROOT;
 use refusals::NOT_OPENED;
 use refusals::UNKNOWN_HEADER;
 use refusals::UNKNOWN_NAME;
+use sorts::BAD;
 use sorts::OPEN;
 use sorts::Taken;
 use sorts::WORD;
 use token::Refusal;
 use tokenizer::Cursor;
 ghost use mathlib.Core.Path.{_≡_};
+ghost use mathlib.Core.Bool.{cond};
+ghost use lib.Dec.{eqb};
 ghost use Prim.Native.Nat.{_+_, _≤_};
 ghost use lib.ListN.{length};
 ghost use Rattle.scan.specs.Bytes.{isAscii};
 ghost use Rattle.lists.specs.Lists.{every};
+ghost use Rattle.refusals.specs.Refusals.{noRoot};
+ghost use Rattle.token.specs.Tokens.{badAt};
 ghost use Rattle.tokenizer.specs.Tokens.{cursorAt};
-ghost use Rattle.grammar.specs.Grammar.{opener, header, byName, childHead, rootHead};
+ghost use Rattle.grammar.specs.Tokens.{sortBad};
+ghost use Rattle.grammar.specs.Grammar.{refusal, opener, header, byName, childHead, rootHead};
 ghost use Rattle.headings.specs.Heads.{MetHead, emptyAt};
 
 // `(` or EMPTY, with the kind, the dimension, its place and the place behind it, where nothing is held; or a refusal.
@@ -162,6 +168,20 @@ fn is_ascii(w: &[u8]) -> bool
     true
 }
 
+// The refusal of what stands in the root's place and is no word: "a bad number [28 or 29]; no token or any other token 8". It is `sorts::refusal_at` of
+// 8, and asks for a bad number's refusal itself: with two callers that stays a function of its own, and no token that is read pays for it.
+fn no_root(text: &[u8], sort: u32, place: usize) -> Refusal
+    ensures { λ r. ⌜ r ≡ cond (eqb sort sortBad) (badAt (now (text .entry)) place) (refusal noRoot place) ⌝ }
+{
+    if sort == BAD {
+        return token::bad_number_at(text, place);
+    }
+    Refusal {
+        number: NO_ROOT,
+        place,
+    }
+}
+
 // The name of the root, and what follows it.
 pub fn root_head(text: &[u8], at: usize) -> Head
     ensures { λ r. ⌜ MetHead (now (text .entry)) rootHead (cursorAt at) r ⌝ }
@@ -169,7 +189,7 @@ pub fn root_head(text: &[u8], at: usize) -> Head
     let token = sorts::take_at(text, at);
     if token.sort != WORD {
         return Head::Wrong(
-            sorts::refusal_at(text, NO_ROOT, token.sort, token.place),
+            no_root(text, token.sort, token.place),
             Cursor::new(token.at),
         );
     }

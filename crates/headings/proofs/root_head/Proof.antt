@@ -13,14 +13,14 @@ use Rattle.headings.proofs.Heads.{told, told-word, root-no, root-word, 
 take-at-requires : tie.Need-take-at-requires
 take-at-requires c κs = search needs
 
-refusal-at-requires : tie.Need-refusal-at-requires
-refusal-at-requires c κs = search needs
+no-root-requires : tie.Need-no-root-requires
+no-root-requires c κs = search needs
 
 new-requires : tie.Need-new-requires
 new-requires c κs = search needs
 
 returns : tie.Need-returns
-returns c = root-no (c .before .before .before .before .take-at .ensures) (c .before .before .if1 .taken) (c .before .refusal-at .ensures) (c .new .ensures)
+returns c = root-no (c .before .before .before .before .take-at .ensures) (c .before .before .if1 .taken) (c .before .no-root .ensures) (c .new .ensures)
 
 add-end : tie.Need-add-end
 add-end c = omega (arith, told _ _ (c .before .before .before .take-at .ensures) .fits)
@@ -61,7 +61,7 @@ root-head-spec =
     tie.close
     (tie.spec
     take-at-requires
-    refusal-at-requires
+    no-root-requires
     new-requires
     returns
     add-end
