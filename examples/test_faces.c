@@ -200,6 +200,67 @@ static void test_strict(void)
     expect(answer[DOORHOLLOW_LETTER] == 'C' && answer[DOORHOLLOW_ROW] == 1, "strict: a ring that isn't closed");
 }
 
+/* The boxes of a collection: of a point, of nothing, and of a collection whose sides are rounded outward. */
+static void test_boxes(void)
+{
+    static const int64_t boxes[5 * DOORHOLLOW_BOX_WIDTH] = {
+        1, -1, 15000000, -20000000, 30000001, /* all of them */
+        1, 15000000, 15000000, -20000000, -20000000,
+        0, 0, 0, 0, 0,
+        1, -1, 0, 30000000, 30000001,
+        1, -1, 0, 30000000, 30000001,
+    };
+    const char *text = "GEOMETRYCOLLECTION(POINT(1.5 -2),LINESTRING EMPTY,GEOMETRYCOLLECTION(POINT Z(-0.00000001 3.00000009 +inf)))";
+    uint32_t nodes[15], numbers[10];
+    int64_t table[27];
+    uint64_t answer[DOORHOLLOW_ANSWER_PLACES];
+
+    doorhollow_read(bytes(text), strlen(text), nodes, 15, numbers, 10, answer);
+    expect(is(answer, DOORHOLLOW_OK, 0, 5, 5), "read: a collection");
+    memset(table, 255, sizeof table);
+    doorhollow_boxes(bytes(text), strlen(text), nodes, 15, numbers, 10, table, 27, answer);
+    expect(is(answer, DOORHOLLOW_OK, 0, 0, 0), "boxes: the answer");
+    expect(memcmp(table, boxes, sizeof boxes) == 0, "boxes: the rows");
+    expect(is_zero(table + 25, 2 * sizeof *table), "boxes: zero behind the rows");
+    expect(table[DOORHOLLOW_HIGH_X] * 2 == 3 * DOORHOLLOW_UNITS_IN_ONE, "boxes: units");
+
+    memset(table, 255, sizeof table);
+    doorhollow_boxes(bytes(text), strlen(text), nodes, 15, numbers, 10, table, 24, answer);
+    expect(is(answer, DOORHOLLOW_NO_ROOM, 0, 0, 0), "boxes: a row too few");
+    expect(is_zero(table, 24 * sizeof *table) && table[24] == -1, "boxes: all of the table is zero, and no more");
+    memset(table, 255, sizeof table);
+    doorhollow_boxes(bytes(text), strlen(text), nodes, 15, numbers, 8, table, 24, answer);
+    expect(is(answer, DOORHOLLOW_ILL_FORMED_STORE, 0, 0, 0), "boxes: an ill-formed store, before the room");
+    expect(is_zero(table, 24 * sizeof *table), "boxes: all of the table is zero after an ill-formed store");
+}
+
+/* A line string whose numbers have a box or are refused, and where. */
+static void test_box(const char *text, uint64_t number, uint64_t place)
+{
+    uint32_t nodes[3], numbers[12];
+    int64_t table[5];
+    uint64_t answer[DOORHOLLOW_ANSWER_PLACES];
+
+    doorhollow_read(bytes(text), strlen(text), nodes, 3, numbers, 12, answer);
+    expect(answer[DOORHOLLOW_NUMBER] == DOORHOLLOW_OK, text);
+    memset(table, 255, sizeof table);
+    doorhollow_boxes(bytes(text), strlen(text), nodes, 3, numbers, (size_t)answer[DOORHOLLOW_NUMBER_COUNT] * 2, table, 5, answer);
+    expect(is(answer, number, place, 0, 0), text);
+    expect(number == DOORHOLLOW_OK ? table[DOORHOLLOW_HAS_BOX] == 1 : is_zero(table, sizeof table), text);
+}
+
+static void test_box_refusals(void)
+{
+    test_box("LINESTRING(1 2,10000000000 -1e10)", DOORHOLLOW_OK, 0);
+    test_box("LINESTRING(1 2,3 10000000000.00000001)", DOORHOLLOW_NUMBER_TOO_LARGE, 17);
+    test_box("LINESTRING(1e-9999 0e9999)", DOORHOLLOW_OK, 0);
+    test_box("LINESTRING(1 0e-10000)", DOORHOLLOW_NUMBER_TOO_LARGE, 13);
+    test_box("LINESTRING(1 2,3 -nan,1e99 4)", DOORHOLLOW_NO_FINITE_NUMBER, 17);
+    test_box("LINESTRING(1 2,1e99 -nan)", DOORHOLLOW_NUMBER_TOO_LARGE, 15);
+    test_box("LINESTRING(1 +Infinity)", DOORHOLLOW_NO_FINITE_NUMBER, 14);
+    test_box("LINESTRING ZM(1 2 1e99 +nan)", DOORHOLLOW_OK, 0);
+}
+
 static void test_infer_type(void)
 {
     uint64_t answer[DOORHOLLOW_ANSWER_PLACES];
@@ -220,6 +281,8 @@ int main(void)
     test_rooms();
     test_stored();
     test_strict();
+    test_boxes();
+    test_box_refusals();
     test_infer_type();
     return failures > 0;
 }

@@ -37,7 +37,7 @@ extern "C" {
 /* The places of an answer, and how many there are. */
 #define DOORHOLLOW_ANSWER_PLACES 4
 #define DOORHOLLOW_NUMBER 0      /* every entry */
-#define DOORHOLLOW_PLACE 1       /* readers, writers, infer_type */
+#define DOORHOLLOW_PLACE 1       /* readers, writers, infer_type, boxes */
 #define DOORHOLLOW_NODE_COUNT 2  /* readers */
 #define DOORHOLLOW_NUMBER_COUNT 3
 #define DOORHOLLOW_LENGTH 2      /* writers */
@@ -58,6 +58,27 @@ extern "C" {
 #define DOORHOLLOW_NUMBER_WIDTH 2
 #define DOORHOLLOW_START 0
 #define DOORHOLLOW_TEXT_LENGTH 1
+
+/*
+ * A box is a row of five: 1, lowest X, highest X, lowest Y, highest Y; or five
+ * zeros, for a node without coordinates.
+ *
+ * Its sides are whole numbers of units, and a unit is a ten-millionth of the 1
+ * that the text counts in: an X of `1.5` is 15000000 units. Where that is a
+ * degree, a unit is about a centimetre on the ground. Sides are worked out from
+ * the digits, without doubles. A low side is rounded down and a high side up:
+ * `0.00000005` has the low side 0 and the high side 1, `-0.00000005` -1 and 0.
+ * So all coordinates lie in the box, and each side is less than a unit away from
+ * one of them. No side's size is over 10^17, so that sums and differences of two
+ * sides fit an int64_t.
+ */
+#define DOORHOLLOW_BOX_WIDTH 5
+#define DOORHOLLOW_HAS_BOX 0
+#define DOORHOLLOW_LOW_X 1
+#define DOORHOLLOW_HIGH_X 2
+#define DOORHOLLOW_LOW_Y 3
+#define DOORHOLLOW_HIGH_Y 4
+#define DOORHOLLOW_UNITS_IN_ONE ((int64_t)10000000)
 
 /* Kinds. */
 #define DOORHOLLOW_POINT 1
@@ -106,6 +127,8 @@ extern "C" {
 #define DOORHOLLOW_DOES_NOT_FIT 27 /* A count, a number's text or the whole is too large for the stored form */
 #define DOORHOLLOW_NOTHING_AFTER_PLUS 28 /* Unable to parse input number as the desired output type */
 #define DOORHOLLOW_NUMBER_GOES_WRONG 29 /* Unable to parse input number as the desired output type */
+#define DOORHOLLOW_NO_FINITE_NUMBER 30 /* An X or Y is inf or nan, which has no place in a box */
+#define DOORHOLLOW_NUMBER_TOO_LARGE 31 /* An X or Y has an exponent beyond 9,999 or is over 10,000,000,000 */
 
 /* What was expected where a number goes wrong: the answers of doorhollow_expected. */
 #define DOORHOLLOW_NO_EXPECTATION 0
@@ -215,6 +238,28 @@ void doorhollow_strict(const uint8_t *text, size_t text_length,
                        const uint32_t *nodes, size_t node_places,
                        const uint32_t *numbers, size_t number_places,
                        uint64_t answer[DOORHOLLOW_ANSWER_PLACES]);
+
+/*
+ * Fills a table with a box for each node of a store, which is lent as for
+ * doorhollow_write: row i of the table is the box around all coordinates of node
+ * row i and of the nodes below it. The room is table_places / 5 rows, and there
+ * have to be as many as nodes. Z and M may be any numbers.
+ *
+ * answer: number, place, 0, 0.
+ * Every place of the table after the used rows is 0, and after a refusal every
+ * place. Refusals 22, then 23 (fewer rows than nodes), with place 0; then that of
+ * the first X or Y, in the order of the numbers, which no box holds, with the
+ * place where its text starts: 30 where it is inf or nan, 31 where its exponent
+ * is beyond 9,999 either way or its size over 10^17 units.
+ *
+ * Two boxes touch where each low side isn't above the other one's high side;
+ * examples/sheet.c goes over the rows in that way.
+ */
+void doorhollow_boxes(const uint8_t *text, size_t text_length,
+                      const uint32_t *nodes, size_t node_places,
+                      const uint32_t *numbers, size_t number_places,
+                      int64_t *table, size_t table_places,
+                      uint64_t answer[DOORHOLLOW_ANSWER_PLACES]);
 
 /*
  * The kind and the dimension that the front of a text names.

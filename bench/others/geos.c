@@ -28,8 +28,18 @@ long coordinates(const char *text) {
     return count;
 }
 
+static void take_envelope(const GEOSGeometry *geometry) {
+    GEOSGeom_getXMin_r(handle(), geometry, &envelope[0]);
+    GEOSGeom_getXMax_r(handle(), geometry, &envelope[1]);
+    GEOSGeom_getYMin_r(handle(), geometry, &envelope[2]);
+    GEOSGeom_getYMax_r(handle(), geometry, &envelope[3]);
+}
+
 void measured(const char *text) {
     GEOSGeometry *geometry = GEOSWKTReader_read_r(handle(), reader(), text);
-    if (geometry)
-        GEOSGeom_destroy_r(handle(), geometry);
+    if (!geometry)
+        return;
+    if (takes_envelope)
+        take_envelope(geometry);
+    GEOSGeom_destroy_r(handle(), geometry);
 }

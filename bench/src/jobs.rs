@@ -28,6 +28,8 @@ pub enum Work {
     Kept,
     /// The proved writer of stored bytes, into a room that they fit exactly.
     Keep,
+    /// The proved boxes of the text's rows, into a table of exactly as many rows as nodes.
+    Boxes,
     /// The Rust's reader. Its tree is freed, and that counts.
     Rust,
     /// The standard library's UTF-8 check, which a `str` has behind it.
@@ -36,7 +38,7 @@ pub enum Work {
     RustDoubles,
 }
 
-pub const WORKS: [Work; 10] = [
+pub const WORKS: [Work; 11] = [
     Work::Exact,
     Work::Ample,
     Work::Utf8,
@@ -44,6 +46,7 @@ pub const WORKS: [Work; 10] = [
     Work::Check,
     Work::Kept,
     Work::Keep,
+    Work::Boxes,
     Work::Rust,
     Work::RustUtf8,
     Work::RustDoubles,
@@ -59,6 +62,7 @@ impl Work {
             Work::Check => "check",
             Work::Kept => "kept",
             Work::Keep => "keep",
+            Work::Boxes => "boxes",
             Work::Rust => "rust",
             Work::RustUtf8 => "rust-utf8",
             Work::RustDoubles => "rust-doubles",
@@ -69,9 +73,10 @@ impl Work {
         WORKS.into_iter().find(|work| work.name() == name)
     }
 
-    /// A refused text has nothing to write or to check.
+    /// A refused text has nothing to write or to check, and no boxes.
     pub fn applies_to(self, sample: &Sample) -> bool {
-        !matches!(self, Work::Write | Work::Check | Work::Keep) || sample.is_accepted()
+        let of_a_tree = matches!(self, Work::Write | Work::Check | Work::Keep | Work::Boxes);
+        !of_a_tree || sample.is_accepted()
     }
 
     /// The bytes that an amount is divided by: those of the canonical text for the writer
@@ -96,6 +101,7 @@ pub struct Job<'a> {
     numbers: Vec<u32>,
     number_texts: Vec<&'a str>,
     out: Vec<u8>,
+    table: Vec<i64>,
     expected: u64,
 }
 
@@ -110,6 +116,7 @@ impl<'a> Job<'a> {
             numbers,
             number_texts: sample.number_texts(),
             out: room_lent(work, sample),
+            table: sample.boxes.clone(),
             expected: expected_number(work, sample),
         }
     }
@@ -132,7 +139,7 @@ impl<'a> Job<'a> {
 
 fn rows_lent(work: Work, sample: &Sample) -> (Vec<u32>, Vec<u32>) {
     match work {
-        Work::Exact | Work::Write | Work::Check | Work::Kept | Work::Keep => {
+        Work::Exact | Work::Write | Work::Check | Work::Kept | Work::Keep | Work::Boxes => {
             (sample.nodes.clone(), sample.numbers.clone())
         }
         Work::Ample => (vec![1; AMPLE_NODES], vec![1; AMPLE_NUMBERS]),
@@ -167,7 +174,8 @@ fn expected_number(work: Work, sample: &Sample) -> u64 {
         Work::Check => 23,
         Work::Kept if !sample.is_accepted() => 22,
         Work::Rust => u64::from(!sample.is_accepted()),
-        Work::Kept | Work::Keep | Work::Write | Work::RustUtf8 | Work::RustDoubles => 0,
+        Work::Kept | Work::Keep | Work::Write | Work::Boxes => 0,
+        Work::RustUtf8 | Work::RustDoubles => 0,
     }
 }
 
@@ -185,6 +193,7 @@ fn measured(job: &mut Job) -> u64 {
         Work::Keep => {
             library::write_stored(&job.bytes, &job.nodes, &job.numbers, &mut job.out).number
         }
+        Work::Boxes => library::boxes(&job.bytes, &job.nodes, &job.numbers, &mut job.table),
         Work::Rust => u64::from(Wkt::<f64>::from_str(job.text).is_err()),
         Work::RustUtf8 => u64::from(std::str::from_utf8(&job.bytes).is_err()),
         Work::RustDoubles => {

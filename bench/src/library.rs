@@ -43,6 +43,17 @@ extern "C" {
         out_length: usize,
         answer: *mut [u64; ANSWER_PLACES],
     );
+    fn doorhollow_boxes(
+        text: *const u8,
+        text_length: usize,
+        nodes: *const u32,
+        nodes_length: usize,
+        numbers: *const u32,
+        numbers_length: usize,
+        table: *mut i64,
+        table_length: usize,
+        answer: *mut [u64; ANSWER_PLACES],
+    );
 }
 
 #[derive(Clone, Copy, Debug, PartialEq, Eq)]
@@ -153,4 +164,25 @@ pub fn write_stored(text: &[u8], nodes: &[u32], numbers: &[u32], out: &mut [u8])
         place,
         length,
     }
+}
+
+/// The number of the answer.
+pub fn boxes(text: &[u8], nodes: &[u32], numbers: &[u32], table: &mut [i64]) -> u64 {
+    let mut answer = [0; ANSWER_PLACES];
+    // SAFETY: as in `read`.
+    unsafe {
+        doorhollow_boxes(
+            text.as_ptr(),
+            text.len(),
+            nodes.as_ptr(),
+            nodes.len(),
+            numbers.as_ptr(),
+            numbers.len(),
+            table.as_mut_ptr(),
+            table.len(),
+            &mut answer,
+        );
+    }
+    let [number, ..] = answer;
+    number
 }

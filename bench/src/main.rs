@@ -1,6 +1,7 @@
 //! Measures the proved library beside the Rust that it replaces, in one process.
 //! `bench/run` builds it and says how it is called.
 
+mod boxes;
 mod functions;
 mod jobs;
 mod library;
@@ -15,6 +16,9 @@ use samples::Sample;
 use std::path::Path;
 use std::process::ExitCode;
 use texts::{Kind, LIMIT};
+
+const USAGE: &str =
+    "usage: bench/run [--quick | --times | --stored | --boxes | --functions TEXT [WORK]]";
 
 fn main() -> ExitCode {
     let words: Vec<String> = std::env::args().skip(1).collect();
@@ -33,13 +37,12 @@ fn answer(words: &[&str]) -> Result<(), String> {
         ["quick"] => tables::quick(),
         ["times"] => tables::times(),
         ["stored"] => tables::stored(),
+        ["boxes", others] => tables::boxes(Path::new(others)),
         ["full", others] => tables::full(Path::new(others)),
         ["functions", counts, kind] => functions(counts, kind, Work::Exact.name()),
         ["functions", counts, kind, work] => functions(counts, kind, work),
         ["once", work, kind, size] => once(work, kind, size),
-        _ => Err(
-            "usage: bench/run [--quick | --times | --stored | --functions TEXT [WORK]]".to_string(),
-        ),
+        _ => Err(USAGE.to_string()),
     }
 }
 
@@ -61,7 +64,7 @@ fn once(work: &str, kind: &str, size: &str) -> Result<(), String> {
 }
 
 fn applicable(work: Work, sample: &Sample) -> Result<(), String> {
-    let refused = || format!("{} is refused: nothing to write", sample.kind.name());
+    let refused = || format!("{} is refused: it has no tree", sample.kind.name());
     work.applies_to(sample).then_some(()).ok_or_else(refused)
 }
 

@@ -7,11 +7,8 @@ use std::path::{Path, PathBuf};
 use std::process::Command;
 
 /// The names of the programs and of what they run.
-const OTHERS: [(&str, &str); 3] = [
-    ("geos", "GEOS"),
-    ("ogr", "OGR (GDAL)"),
-    ("boost", "Boost.Geometry"),
-];
+const GEOS: (&str, &str) = ("geos", "GEOS");
+const OTHERS: [(&str, &str); 3] = [GEOS, ("ogr", "OGR (GDAL)"), ("boost", "Boost.Geometry")];
 
 pub struct Other {
     /// With its version.
@@ -31,13 +28,26 @@ pub fn built(folder: &Path) -> Result<(Vec<Other>, Vec<&'static str>), String> {
     let mut found = Vec::new();
     let mut missing = Vec::new();
     for (name, title) in OTHERS {
-        let program = folder.join(name);
-        match program.exists() {
-            true => found.push(Other::new(program, title)?),
-            false => missing.push(title),
+        match built_as(name, title, folder)? {
+            Some(other) => found.push(other),
+            None => missing.push(title),
         }
     }
     Ok((found, missing))
+}
+
+/// The one that is asked for envelopes.
+pub fn geos(folder: &Path) -> Result<Option<Other>, String> {
+    let (name, title) = GEOS;
+    built_as(name, title, folder)
+}
+
+fn built_as(name: &str, title: &str, folder: &Path) -> Result<Option<Other>, String> {
+    let program = folder.join(name);
+    match program.exists() {
+        true => Other::new(program, title).map(Some),
+        false => Ok(None),
+    }
 }
 
 impl Other {
@@ -50,26 +60,47 @@ impl Other {
     }
 
     pub fn measure(&self, sample: &Sample) -> Result<Outcome, String> {
-        let mut timed = Command::new(&self.program);
-        let said = printed(timed.arg(ROUNDS.to_string()), &sample.text)?;
-        let words: Vec<&str> = said.split_whitespace().collect();
-        let [answer, coordinates, least] = words[..] else {
-            return Err(format!("{timed:?} says: {said}"));
-        };
-        if let Some(why) = left_out(answer, coordinates, sample) {
-            return Ok(Outcome::Left(why));
-        }
-        let least: f64 = least.parse().map_err(|_| format!("{timed:?}: {said}"))?;
-        let bytes = sample.text.len() as f64;
-        Ok(Outcome::Measured {
-            counted: self.count(sample)? as f64 / bytes,
-            took: least / bytes,
-        })
+        let (outcome, _) = self.measure_with(&[], sample)?;
+        Ok(outcome)
     }
 
-    fn count(&self, sample: &Sample) -> Result<u64, String> {
+    /// The same with the geometry's envelope, which has to be the library's box of the whole.
+    pub fn measure_envelope(&self, sample: &Sample) -> Result<Outcome, String> {
+        let (outcome, envelope) = self.measure_with(&["envelope"], sample)?;
+        if let Outcome::Measured { .. } = outcome {
+            let named = |why| format!("text {} beside {}: {why}", sample.kind.name(), self.title);
+            sample.agree_on_envelope(&envelope).map_err(named)?;
+        }
+        Ok(outcome)
+    }
+
+    /// What the program takes with these words, and the numbers that it prints behind the time.
+    fn measure_with(&self, words: &[&str], sample: &Sample) -> Result<(Outcome, Vec<f64>), String> {
+        let mut timed = Command::new(&self.program);
+        timed.arg(ROUNDS.to_string()).args(words);
+        let said = printed(&mut timed, &sample.text)?;
+        let otherwise = || format!("{timed:?} says: {said}");
+        let mut said_words = said.split_whitespace();
+        let (Some(answer), Some(coordinates)) = (said_words.next(), said_words.next()) else {
+            return Err(otherwise());
+        };
+        let numbers: Result<Vec<f64>, _> = said_words.map(str::parse).collect();
+        let numbers = numbers.map_err(|_| otherwise())?;
+        let (least, others) = numbers.split_first().ok_or_else(otherwise)?;
+        if let Some(why) = left_out(answer, coordinates, sample) {
+            return Ok((Outcome::Left(why), Vec::new()));
+        }
+        let bytes = sample.text.len() as f64;
+        let measured = Outcome::Measured {
+            counted: self.count(words, sample)? as f64 / bytes,
+            took: least / bytes,
+        };
+        Ok((measured, others.to_vec()))
+    }
+
+    fn count(&self, words: &[&str], sample: &Sample) -> Result<u64, String> {
         let mut counted = under_callgrind(&self.program, Path::new("/dev/null"));
-        collected(counted.arg("1"), &sample.text)
+        collected(counted.arg("1").args(words), &sample.text)
     }
 }
 

@@ -4,9 +4,13 @@ use crate::library::{self, ReadAnswer};
 use crate::texts::{Kind, LIMIT};
 use driver::reader::{self, Reading, Tree};
 
-/// Places of a node row and of a number row.
+/// Places of a node row, of a number row and of a box.
 const NODE_WIDTH: usize = 3;
 const NUMBER_WIDTH: usize = 2;
+const BOX_WIDTH: usize = 5;
+
+/// A box's sides are in ten-millionths.
+const UNITS_IN_ONE: f64 = 1e7;
 
 /// Places that every text has room in: a node takes 4 bytes of text at least (`1 2,` in a
 /// multipoint), and a number 2.
@@ -29,6 +33,8 @@ pub struct Sample {
     pub canonical: Vec<u8>,
     /// The stored bytes of the rows; if the text is refused, with a wrong last byte.
     pub stored: Vec<u8>,
+    /// The boxes, a row for each node; empty if the text is refused.
+    pub boxes: Vec<i64>,
 }
 
 struct Rows {
@@ -56,9 +62,9 @@ impl Sample {
         }
         let rows = used_rows(&kind.accepted_text(size));
         let answer = read_with_room(&text, rows.nodes.len(), rows.numbers.len()).answer;
-        let canonical = match answer.number {
-            0 => canonical_of(&text, &rows)?,
-            _ => Vec::new(),
+        let (canonical, boxes) = match answer.number {
+            0 => (canonical_of(&text, &rows)?, boxes_of(&text, &rows)?),
+            _ => (Vec::new(), Vec::new()),
         };
         let mut stored = stored_of(&kind.accepted_text(size), &rows)?;
         if let (1.., Some(last)) = (answer.number, stored.last_mut()) {
@@ -73,6 +79,7 @@ impl Sample {
             numbers: rows.numbers,
             canonical,
             stored,
+            boxes,
         })
     }
 
@@ -117,6 +124,18 @@ impl Sample {
         )
     }
 
+    /// Whether the box of the whole is within a unit of an envelope of doubles: lowest and
+    /// highest X, lowest and highest Y. A double is far closer to its number than that.
+    pub fn agree_on_envelope(&self, envelope: &[f64]) -> Result<(), String> {
+        let sides = self.boxes.get(1..BOX_WIDTH).unwrap_or_default();
+        let is_near =
+            |(side, double): (&i64, &f64)| (*side as f64 - double * UNITS_IN_ONE).abs() <= 1.0;
+        hold(
+            sides.len() == envelope.len() && sides.iter().zip(envelope).all(is_near),
+            &format!("the box {sides:?} isn't the envelope {envelope:?}"),
+        )
+    }
+
     pub fn is_accepted(&self) -> bool {
         self.answer.number == 0
     }
@@ -132,6 +151,11 @@ impl Sample {
 
     pub fn number_count(&self) -> usize {
         self.numbers.len() / NUMBER_WIDTH
+    }
+
+    /// How many bytes the texts of all numbers have.
+    pub fn number_bytes(&self) -> usize {
+        self.number_texts().into_iter().map(str::len).sum()
     }
 
     /// How many coordinates the geometry has: the parts of its points and line strings.
@@ -173,6 +197,28 @@ fn canonical_of(text: &str, rows: &Rows) -> Result<Vec<u8>, String> {
     hold(answer.number == 0, "the writer refuses its rows")?;
     out.truncate(answer.length as usize);
     Ok(out)
+}
+
+/// The boxes, in a table of exactly as many rows as nodes.
+fn boxes_of(text: &str, rows: &Rows) -> Result<Vec<i64>, String> {
+    let places = rows.nodes.len() / NODE_WIDTH * BOX_WIDTH;
+    let mut table = vec![i64::from(UNCLEARED); places];
+    let number = library::boxes(text.as_bytes(), &rows.nodes, &rows.numbers, &mut table);
+    hold(number == 0, "the boxes refuse its rows")?;
+    hold(
+        table.chunks(BOX_WIDTH).all(is_box),
+        "a row of the table is no box",
+    )?;
+    Ok(table)
+}
+
+/// Whether a row is a box or that of a node without coordinates. One that wasn't written is neither.
+fn is_box(row: &[i64]) -> bool {
+    match row {
+        [0, sides @ ..] => sides.iter().all(|side| *side == 0),
+        [1, low_x, high_x, low_y, high_y] => low_x <= high_x && low_y <= high_y,
+        _ => false,
+    }
 }
 
 /// The stored bytes, which have to be read back to the same rows and number texts, and to be

@@ -1,5 +1,6 @@
 //! The tables, in Markdown, as docs/PERFORMANCE.md has them.
 
+use crate::boxes;
 use crate::jobs::Work;
 use crate::measure::{nanoseconds, Counter, ROUNDS};
 use crate::others::{self, Other, Outcome};
@@ -12,7 +13,7 @@ use std::path::Path;
 const SIZES: [usize; 4] = [1_024, 4_096, 16_384, LIMIT];
 
 /// What a table has where there is nothing to measure.
-const NOTHING: &str = "-";
+pub const NOTHING: &str = "-";
 
 /// The answers compared, and the instructions of the reading.
 pub fn quick() -> Result<(), String> {
@@ -31,6 +32,7 @@ pub fn full(others: &Path) -> Result<(), String> {
     print_stored(&samples, &mut counter)?;
     print_times(&samples);
     print_stored_times(&samples);
+    boxes::print(&samples, &mut counter, others::geos(others)?.as_ref())?;
     print_growth(&mut counter)?;
     let (found, missing) = others::built(others)?;
     for other in found {
@@ -218,6 +220,16 @@ fn print_stored_times(samples: &[Sample]) {
     }
 }
 
+/// The boxes beside the reading and GEOS's envelope.
+pub fn boxes(others: &Path) -> Result<(), String> {
+    let samples = all_of_size(LIMIT)?;
+    boxes::print(
+        &samples,
+        &mut Counter::default(),
+        others::geos(others)?.as_ref(),
+    )
+}
+
 /// The times of the reading and the writing.
 pub fn times() -> Result<(), String> {
     let samples = all_of_size(LIMIT)?;
@@ -300,11 +312,11 @@ fn beside(other: &Other, sample: &Sample, counter: &mut Counter) -> Result<[Stri
     Ok([counted, our_count / counted, took, our_time / took].map(amount))
 }
 
-fn amount(value: f64) -> String {
+pub fn amount(value: f64) -> String {
     format!("{value:.2}")
 }
 
-fn share(value: f64) -> String {
+pub fn share(value: f64) -> String {
     format!("{:.0} %", 100.0 * value)
 }
 

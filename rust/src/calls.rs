@@ -7,6 +7,9 @@ pub const NODE_WIDTH: usize = 3;
 /// How many places of a slice a number's row takes: start and length of its text.
 pub const NUMBER_WIDTH: usize = 2;
 
+/// How many places of a table the row of a box takes: whether there is one, and its four sides.
+pub const BOX_WIDTH: usize = 5;
+
 const ANSWER_PLACES: usize = 4;
 
 type Answer = [u64; ANSWER_PLACES];
@@ -65,6 +68,18 @@ extern "C" {
         node_places: usize,
         numbers: *const u32,
         number_places: usize,
+        answer: *mut Answer,
+    );
+
+    fn doorhollow_boxes(
+        text: *const u8,
+        text_length: usize,
+        nodes: *const u32,
+        node_places: usize,
+        numbers: *const u32,
+        number_places: usize,
+        table: *mut i64,
+        table_places: usize,
         answer: *mut Answer,
     );
 
@@ -215,6 +230,33 @@ pub fn strict_rows(text: &[u8], nodes: &[u32], numbers: &[u32]) -> Result<Option
             place: 0,
         }),
     }
+}
+
+/// Fills a table with a row for each node: 1, lowest X, highest X, lowest Y, highest Y, in the units of
+/// [`Bounds`](crate::Bounds), or five zeros for a node without coordinates. The rows that are lent are the used ones only.
+/// What lies after the filled rows is zero, and after a refusal, 22, 23, 30 or 31, all of the table.
+pub fn box_rows(
+    text: &[u8],
+    nodes: &[u32],
+    numbers: &[u32],
+    table: &mut [i64],
+) -> Result<(), Refusal> {
+    let mut answer = [0; ANSWER_PLACES];
+    // SAFETY: as in `read`.
+    unsafe {
+        doorhollow_boxes(
+            text.as_ptr(),
+            text.len(),
+            nodes.as_ptr(),
+            nodes.len(),
+            numbers.as_ptr(),
+            numbers.len(),
+            table.as_mut_ptr(),
+            table.len(),
+            &mut answer,
+        );
+    }
+    accepted(answer).map(|_| ())
 }
 
 pub(crate) fn infer_type(text: &[u8]) -> Result<(Kind, Dimension), Refusal> {

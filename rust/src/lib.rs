@@ -13,10 +13,14 @@
 //! A tree can be kept as bytes and in files, which are smaller work to read than the text was ([`Tree::to_stored`],
 //! [`read_stored`], [`Tree::save`], [`load`]): one tree has one stored form, and what isn't one is refused.
 //!
+//! Beside each node stands the box around its coordinates ([`Tree::bounds`]), and which boxes touch a rectangle is found
+//! without another look at the text ([`Boxes::touching`]).
+//!
 //! A tree is rows: each node is one, and its children's rows follow it. Nodes are named by the index of their row,
 //! from 0, which is the root. Numbers are parts of the text that was read, and no doubles: parse them as you need.
 #![warn(missing_docs)]
 
+mod boxes;
 mod calls;
 mod expectations;
 mod explain;
@@ -25,8 +29,10 @@ pub mod refusals;
 mod stored;
 mod tree;
 
+pub use boxes::{Bounds, Boxes, UNITS_IN_ONE};
 pub use calls::{
-    enough_rows, strict_rows, write_rows, write_stored_rows, NODE_WIDTH, NUMBER_WIDTH,
+    box_rows, enough_rows, strict_rows, write_rows, write_stored_rows, BOX_WIDTH, NODE_WIDTH,
+    NUMBER_WIDTH,
 };
 pub use expectations::Expected;
 pub use refusal::Refusal;

@@ -6,11 +6,11 @@ use std::fmt;
 /// Why a text, stored bytes or rows were refused, and where.
 #[derive(Clone, Copy, Debug, PartialEq, Eq, Hash)]
 pub struct Refusal {
-    /// 1 to 29 but for 6, which is no longer given; [`refusals`](crate::refusals) has their names.
+    /// 1 to 31 but for 6, which is no longer given; [`refusals`](crate::refusals) has their names.
     pub number: u32,
     /// A byte of the text or of the stored bytes, or their length. For 28, a number of which nothing is left after its
     /// plus, that plus; for 29, a number that goes wrong, the first byte at which no number can go on, or its end where
-    /// more was needed.
+    /// more was needed; for 30 and 31, a number that no box holds, the first byte of its text.
     pub place: usize,
 }
 

@@ -84,6 +84,12 @@ pub const NOTHING_AFTER_PLUS: u32 = 28;
 /// `Unable to parse input number as the desired output type`
 pub const NUMBER_GOES_WRONG: u32 = 29;
 
+/// `An X or Y is inf or nan, which has no place in a box`
+pub const NO_FINITE_NUMBER: u32 = 30;
+
+/// `An X or Y has an exponent beyond 9,999 or is over 10,000,000,000`
+pub const NUMBER_TOO_LARGE: u32 = 31;
+
 pub(crate) fn message(number: u32) -> &'static str {
     match number {
         TEXT_TOO_LONG => "More bytes than a text (65,535) or a stored tree (1,048,576) may have",
@@ -114,6 +120,8 @@ pub(crate) fn message(number: u32) -> &'static str {
         DOES_NOT_FIT => "A count, a number's text or the whole is too large for the stored form",
         NOTHING_AFTER_PLUS => "Unable to parse input number as the desired output type",
         NUMBER_GOES_WRONG => "Unable to parse input number as the desired output type",
+        NO_FINITE_NUMBER => "An X or Y is inf or nan, which has no place in a box",
+        NUMBER_TOO_LARGE => "An X or Y has an exponent beyond 9,999 or is over 10,000,000,000",
         _ => "Unknown refusal",
     }
 }

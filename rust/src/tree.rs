@@ -1,8 +1,9 @@
 //! What was read: nodes and numbers by their indexes.
-use crate::{calls, Dimension, Fault, Kind, Refusal, NODE_WIDTH, NUMBER_WIDTH};
+use crate::{calls, Bounds, Boxes, Dimension, Fault, Kind, Refusal, NODE_WIDTH, NUMBER_WIDTH};
 use std::borrow::Cow;
 use std::fmt;
 use std::ops::Range;
+use std::sync::OnceLock;
 
 /// A node: its kind, its dimension, and how many coordinates or children it has.
 #[derive(Clone, Copy, Debug, PartialEq, Eq)]
@@ -38,6 +39,8 @@ pub struct Tree<'a> {
     text: &'a [u8],
     nodes: Cow<'a, [u32]>,
     numbers: Cow<'a, [u32]>,
+    // What the boxes came to, once they were asked for.
+    boxes: OnceLock<Result<Boxes, Refusal>>,
 }
 
 impl<'a> Tree<'a> {
@@ -46,6 +49,7 @@ impl<'a> Tree<'a> {
             text,
             nodes,
             numbers,
+            boxes: OnceLock::new(),
         }
     }
 
@@ -201,6 +205,33 @@ impl<'a> Tree<'a> {
             None => Ok(()),
             Some(fault) => Err(fault),
         }
+    }
+
+    /// The boxes of all nodes. One call works them out when they are first asked for; the tree keeps them.
+    ///
+    /// Refusals 30, for an X or Y that is `inf` or `nan`, and 31, for one whose exponent is beyond 9,999 either way or
+    /// whose size is over 10,000,000,000: of the first such number, with the place in [`text`](Tree::text) where its text
+    /// starts. Z and M may be any numbers. To have no box is no refusal.
+    pub fn boxes(&self) -> Result<&Boxes, Refusal> {
+        let boxes = self
+            .boxes
+            .get_or_init(|| Boxes::of(self.text, &self.nodes, &self.numbers));
+        boxes.as_ref().map_err(|refusal| *refusal)
+    }
+
+    /// The box of the node at an index, around its coordinates and those of all nodes below it; `None` where there are
+    /// none, or no such node. It is that of [`boxes`](Tree::boxes), with the same refusals.
+    ///
+    /// ```
+    /// let tree = doorhollow::read("GEOMETRYCOLLECTION(POINT EMPTY,POINT(-0.00000005 2.5))")?;
+    /// let all = tree.bounds(0)?.unwrap();
+    /// assert_eq!((all.low_x, all.high_x), (-1, 0));
+    /// assert_eq!((all.low_y, all.high_y), (25_000_000, 25_000_000));
+    /// assert_eq!(tree.bounds(1)?, None);
+    /// # Ok::<(), doorhollow::Refusal>(())
+    /// ```
+    pub fn bounds(&self, index: usize) -> Result<Option<Bounds>, Refusal> {
+        Ok(self.boxes()?.bounds(index))
     }
 }
 

@@ -51,7 +51,7 @@ fn messages_are_those_of_the_crate_wkt() {
 
 #[test]
 fn every_refusal_has_a_message() {
-    let without: Vec<u32> = (0..=30)
+    let without: Vec<u32> = (0..=32)
         .filter(|number| {
             let refusal = Refusal {
                 number: *number,
@@ -60,7 +60,7 @@ fn every_refusal_has_a_message() {
             refusal.message() == "Unknown refusal"
         })
         .collect();
-    assert_eq!(without, [0, 6, 30], "6 is no longer given");
+    assert_eq!(without, [0, 6, 32], "6 is no longer given");
 }
 
 #[test]

@@ -7,7 +7,8 @@ use Rattle.store.specs.declared.ReadAnswer.{ReadAnswer}
 use Rattle.store.specs.declared.WriteAnswer.{WriteAnswer}
 use Rattle.strict.specs.declared.StrictAnswer.{StrictAnswer}
 use Rattle.infer_type.specs.declared.Inferred.{Inferred}
-use Rattle.c_answers.specs.Answers.{readPlaces, writePlaces, strictPlaces, inferPlaces}
+use Rattle.bounds.specs.declared.BoxAnswer.{BoxAnswer}
+use Rattle.c_answers.specs.Answers.{readPlaces, writePlaces, strictPlaces, inferPlaces, boxPlaces}
 
 pub read_places-one : (a : ReadAnswer) → One (λ r. r ≡ readPlaces a)
 read_places-one a = one
@@ -20,3 +21,6 @@ strict_places-one a = one
 
 pub infer_places-one : (a : Inferred) → One (λ r. r ≡ inferPlaces a)
 infer_places-one a = one
+
+pub box_places-one : (a : BoxAnswer) → One (λ r. r ≡ boxPlaces a)
+box_places-one a = one

@@ -1,13 +1,18 @@
 -- What the entries for C leave in the four places of a lent answer, and in the slices: the answers of `wkt`, `to_wkt`,
--- `stored`, `strict` and `infer_type` in the order that document 01 names their values in ("Refusal numbers"), then zeros.
+-- `stored`, `strict` and `infer_type` in the order that document 01 names their values in ("Refusal numbers"), and that of
+-- `node_boxes` (request 2026-03), then zeros.
 use mathlib.Core.Path.{_≡_}
 use mathlib.Core.List.{List, [], _∷_}
 use Prim.Native.Nat.{ℕ}
+use lib.IntN.{ℤ}
+use lib.ListN.{length}
 use Rattle.store.specs.declared.ReadAnswer.{ReadAnswer}
 use Rattle.store.specs.declared.WriteAnswer.{WriteAnswer}
 use Rattle.store.specs.Answers.{Outcome, readAnswer, Leaves, Output, writeAnswer, Writes}
 use Rattle.strict.specs.declared.StrictAnswer.{StrictAnswer}
 use Rattle.infer_type.specs.declared.Inferred.{Inferred}
+use Rattle.bounds.specs.declared.BoxAnswer.{BoxAnswer}
+use Rattle.bounds.specs.Bounds.{padded}
 
 -- "The reader answers number, place, node count, number count"
 abbrev pub readPlaces : ReadAnswer → List ℕ
@@ -25,6 +30,10 @@ strictPlaces a = a .number ∷ a .letter ∷ a .row ∷ 0 ∷ []
 abbrev pub inferPlaces : Inferred → List ℕ
 inferPlaces a = a .number ∷ a .place ∷ a .kind ∷ a .dimension ∷ []
 
+-- the boxes number, place
+abbrev pub boxPlaces : BoxAnswer → List ℕ
+boxPlaces a = a .number ∷ a .place ∷ 0 ∷ 0 ∷ []
+
 -- a reader, by what reading comes to: both slices are left as its contract says, and the answer is the one that it fixes
 pub record ReadsInto (o : Outcome) (ns ms ns′ ms′ answer : List ℕ) : Type 0 where
   pub rows : Leaves o ns ms (readAnswer o) ns′ ms′
@@ -34,3 +43,8 @@ pub record ReadsInto (o : Outcome) (ns ms ns′ ms′ answer : List ℕ) : Type 
 pub record WritesInto (o : Output) (room : ℕ) (out′ answer : List ℕ) : Type 0 where
   pub bytes : Writes o room (writeAnswer o room) out′
   pub places : answer ≡ writePlaces (writeAnswer o room)
+
+-- the boxes, by what is answered and the rows that are used: these stand in the table from its first place on, and zeros follow them
+pub record BoxesInto (a : BoxAnswer) (used t t′ : List ℤ) (answer : List ℕ) : Type 0 where
+  pub table : t′ ≡ padded used (length t)
+  pub places : answer ≡ boxPlaces a

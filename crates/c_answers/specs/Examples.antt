@@ -6,7 +6,8 @@ use Rattle.store.specs.declared.ReadAnswer.{ReadAnswer}
 use Rattle.store.specs.declared.WriteAnswer.{WriteAnswer}
 use Rattle.strict.specs.declared.StrictAnswer.{StrictAnswer}
 use Rattle.infer_type.specs.declared.Inferred.{Inferred}
-use Rattle.c_answers.specs.Answers.{readPlaces, writePlaces, strictPlaces, inferPlaces}
+use Rattle.bounds.specs.declared.BoxAnswer.{BoxAnswer}
+use Rattle.c_answers.specs.Answers.{readPlaces, writePlaces, strictPlaces, inferPlaces, boxPlaces}
 
 -- "The reader answers number, place, node count, number count"
 readAnswer : ReadAnswer
@@ -39,3 +40,11 @@ inferred = record { number = 11; place = 12; kind = 13; dimension = 14 }
 infer : inferPlaces inferred ≡ 11 ∷ 12 ∷ 13 ∷ 14 ∷ []
 unfolding inferred
 infer = refl
+
+-- the boxes number, place
+boxAnswer : BoxAnswer
+boxAnswer = record { number = 11; place = 12 }
+
+box : boxPlaces boxAnswer ≡ 11 ∷ 12 ∷ 0 ∷ 0 ∷ []
+unfolding boxAnswer
+box = refl

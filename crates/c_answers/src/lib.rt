@@ -1,6 +1,7 @@
 // The answers of the entries for C, each laid out in the four places that a caller lends for it.
 ghost use mathlib.Core.Path.{_≡_};
-ghost use Rattle.c_answers.specs.Answers.{readPlaces, writePlaces, strictPlaces, inferPlaces};
+ghost use Rattle.c_answers.specs.Answers.{readPlaces, writePlaces, strictPlaces, inferPlaces, boxPlaces};
+use bounds::BoxAnswer;
 use infer_type::Inferred;
 use store::ReadAnswer;
 use store::WriteAnswer;
@@ -45,4 +46,11 @@ pub fn infer_places(a: Inferred) -> [u64; ANSWER_PLACES]
         a.kind as u64,
         a.dimension as u64,
     ]
+}
+
+// Number, place.
+pub fn box_places(a: BoxAnswer) -> [u64; ANSWER_PLACES]
+    ensures { λ r. ⌜ r ≡ boxPlaces a ⌝ }
+{
+    [a.number as u64, a.place as u64, 0, 0]
 }

@@ -116,7 +116,7 @@ FixedText f =
     (text nodes numbers text′ nodes′ numbers′ : List ℕ) (room : ℕ) → f text nodes numbers room .answer .number ≡ 0 → f text′ nodes′ numbers′ room .answer .number ≡ 0 →
     saidBy (f text nodes numbers room) ≡ saidBy (f text′ nodes′ numbers′ room)
 
--- "or writes nothing" (wkt_c/says_nothing)
+-- "or writes nothing" (c_answers/says_nothing)
 abbrev pub WritesNothing : Writer → Type 0
 WritesNothing f = (text nodes numbers : List ℕ) (room : ℕ) → f text nodes numbers room .answer .number ≡ 0 → f text nodes numbers room .bytes ≡ zeros room
 

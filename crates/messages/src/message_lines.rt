@@ -1,6 +1,6 @@
 // The messages of the refusals, made by tools/refusals from crates/refusals/table.txt: the line at a
 // refusal's number is its message, from 0 on.
-pub(crate) const MESSAGE_LINES: [u8; 1127] = *b"No refusal\n\
+pub(crate) const MESSAGE_LINES: [u8; 1245] = *b"No refusal\n\
     More bytes than a text (65,535) or a stored tree (1,048,576) may have\n\
     The text is not well-formed UTF-8\n\
     No room for another node\n\
@@ -29,4 +29,6 @@ pub(crate) const MESSAGE_LINES: [u8; 1127] = *b"No refusal\n\
     The stored bytes are of another version\n\
     A count, a number's text or the whole is too large for the stored form\n\
     Unable to parse input number as the desired output type\n\
-    Unable to parse input number as the desired output type\n";
+    Unable to parse input number as the desired output type\n\
+    An X or Y is inf or nan, which has no place in a box\n\
+    An X or Y has an exponent beyond 9,999 or is over 10,000,000,000\n";

@@ -1,8 +1,10 @@
--- Worked examples of this crate's definitions, by computation: each clause about rows broken by itself.
+-- Worked examples of this crate's definitions, by computation: each clause about rows broken by itself, and rows that are a tree.
 use mathlib.Core.Path.{_≡_, refl}
+use mathlib.Core.Bool.{true}
 use mathlib.Core.Option.{none}
 use mathlib.Core.List.{List, [], _∷_, _++_}
 use Prim.Native.Nat.{ℕ, zero, suc}
+use Rattle.lists.specs.Options.{isSome}
 use Rattle.kinds.specs.Kinds.{width}
 use Rattle.store.specs.Rows.{Row, nodeOver}
 use Rattle.nodes.specs.Nodes.{above, nodeEnd, nodeEnds, stillOpen, atLast, isAllowed, childKind, numbersOf, meetsNode, meetsRows, meets}
@@ -35,3 +37,8 @@ all = 0
 by-rows-ill : (meets 4 (above ∷ []) 0 0 (leaf 1 0 2) ≡ none) × (meets 0 (above ∷ []) 0 0 (nest 33 emptyPoint) ≡ none) × (meets 0 (above ∷ []) 0 0 (nodeOver 3 0 1 emptyPoint) ≡ none) × (meets 0 (above ∷ []) 0 0 (nodeOver 4 0 1 emptyPoint) ≡ none) × (meets 3 (above ∷ []) 0 0 point ≡ none)
 unfolding all
 by-rows-ill = (refl, refl, refl, refl, refl)
+
+-- rows that are a tree come to something: each node that has ended gives way to its parent, up to the frame above the root, and no number is left
+by-rows-well : isSome (meets 2 (above ∷ []) 0 0 store) ≡ true
+unfolding all store
+by-rows-well = refl

@@ -28,7 +28,7 @@ plain-lexeme w e =
     rw (both .0, nil-is (afterAll isDigit (afterWhole bare)) (both .1)) (or-true (isNamed bare))
 
 -- ---- digits told four at a time
-every-append : {A : Type 0} (p : A → Bool) (x y : List A) → every p (x ++ y) ≡ (every p x && every p y)
+pub every-append : {A : Type 0} (p : A → Bool) (x y : List A) → every p (x ++ y) ≡ (every p x && every p y)
 unfolding every
 every-append p [] y = refl
 every-append p (a ∷ x) y = go (p a) (every-append p x y)

@@ -90,15 +90,15 @@ no-letter b k h l = rw (lt-leb 97 b (omega arith)) (ne-eqb b k (λ e. omega arit
 pub low : (b : ℕ) → (isDigit b || isPoint b) ≡ true → b ≤ 57
 low b e = or-elim (isDigit b) (isPoint b) (digit-high b) (λ p. omega (arith, eqb-true b 46 p)) e
 
-not-named : (b : ℕ) (l : List ℕ) → (isDigit b || isPoint b) ≡ true → isNamed (b ∷ l) ≡ false
+pub not-named : (b : ℕ) (l : List ℕ) → (isDigit b || isPoint b) ≡ true → isNamed (b ∷ l) ≡ false
 unfolding isNamed sameWord
 not-named b l e = rw (no-letter b 73 (low b e) (omega arith), no-letter b 78 (low b e) (omega arith))
 
-not-decimal : (l : List ℕ) → begins isDigit l ≡ false → begins isPoint l ≡ false → isDecimal isNil l ≡ false
+pub not-decimal : (l : List ℕ) → begins isDigit l ≡ false → begins isPoint l ≡ false → isDecimal isNil l ≡ false
 unfolding isDecimal
 not-decimal l d p = rw (all-none isDigit l d, one-none isPoint l p, d)
 
-nothing : isUnsigned [] ≡ false
+pub nothing : isUnsigned [] ≡ false
 unfolding isUnsigned isNamed sameWord isDecimal begins afterOne afterAll
 nothing = refl
 

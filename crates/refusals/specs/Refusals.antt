@@ -116,3 +116,11 @@ nothingAfterPlus = 28
 -- "a number that goes wrong"
 abbrev pub numberGoesWrong : ℕ
 numberGoesWrong = 29
+
+-- "at the text of the first offending X or Y 30 for inf or nan"
+abbrev pub noFiniteNumber : ℕ
+noFiniteNumber = 30
+
+-- "31 for an exponent beyond 9,999 either way or a scaled size over 10^17"
+abbrev pub numberTooLarge : ℕ
+numberTooLarge = 31

@@ -55,3 +55,7 @@ pub const DOES_NOT_FIT: u32 = 27;
 pub const NOTHING_AFTER_PLUS: u32 = 28;
 
 pub const NUMBER_GOES_WRONG: u32 = 29;
+
+pub const NO_FINITE_NUMBER: u32 = 30;
+
+pub const NUMBER_TOO_LARGE: u32 = 31;

@@ -48,7 +48,7 @@ and-false true = refl
 and-false false = refl
 
 module _ {A : Type 0} (p : A → Bool) where
-  every-snoc : (l : List A) (a : A) → every p (l ++ (a ∷ [])) ≡ (every p l && p a)
+  pub every-snoc : (l : List A) (a : A) → every p (l ++ (a ∷ [])) ≡ (every p l && p a)
   unfolding every
   every-snoc [] a = go (p a)
     where

@@ -55,7 +55,7 @@ pub fn number_text<'a>(text: &'a [u8], numbers: &[u32], i: usize) -> &'a [u8]
 }
 
 // Whether a number lies in the text and is a lexeme.
-fn is_number_at(text: &[u8], numbers: &[u32], i: usize) -> bool
+pub fn is_number_at(text: &[u8], numbers: &[u32], i: usize) -> bool
     ensures { λ r. ⌜ r ≡ isNumberAt (now (text .entry)) (now (numbers .entry)) i ⌝ }
 {
     let start = store::start_at(numbers, i) as usize;

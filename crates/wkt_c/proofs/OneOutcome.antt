@@ -3,6 +3,7 @@
 use Prim.Native.Nat.{ℕ}
 use mathlib.Core.Path.{_≡_, sym, _∙_}
 use mathlib.Core.List.{List}
+use lib.IntN.{ℤ}
 use lib.ListN.{length}
 use Rattle.store.specs.Rows.{nodeRoom, numberRoom}
 use Rattle.store.specs.Answers.{Outcome, Output}
@@ -18,7 +19,10 @@ use Rattle.rooms.specs.Rooms.{enoughRows}
 use Rattle.strict.specs.Strict.{strictOf}
 use Rattle.infer_type.specs.Infer.{inferType}
 use Rattle.expected.specs.Expected.{expectedOf}
-use Rattle.c_answers.specs.Answers.{strictPlaces, inferPlaces, ReadsInto, WritesInto}
+use Rattle.bounds.specs.declared.BoxAnswer.{BoxAnswer}
+use Rattle.bounds.specs.Bounds.{boxRoom}
+use Rattle.node_boxes.specs.Boxes.{boxesOf, answerOf, usedBoxes}
+use Rattle.c_answers.specs.Answers.{strictPlaces, inferPlaces, ReadsInto, WritesInto, BoxesInto}
 
 pub doorhollow_enough_rows-one : (bytes : ℕ) → One (λ r. r ≡ enoughRows bytes)
 doorhollow_enough_rows-one bytes = one
@@ -30,6 +34,10 @@ reads-one x y = (x .rows .nodes ∙ sym (y .rows .nodes), x .rows .numbers ∙ s
 -- the room and the answer
 pub writes-one : {o : Output} {room : ℕ} {out′ out″ answer answer′ : List ℕ} → WritesInto o room out′ answer → WritesInto o room out″ answer′ → (out′ ≡ out″) × (answer ≡ answer′)
 writes-one x y = (x .bytes .bytes ∙ sym (y .bytes .bytes), x .places ∙ sym (y .places))
+
+-- the table and the answer
+pub fills-one : {a : BoxAnswer} {used t t′ t″ : List ℤ} {answer answer′ : List ℕ} → BoxesInto a used t t′ answer → BoxesInto a used t t″ answer′ → (t′ ≡ t″) × (answer ≡ answer′)
+fills-one x y = (x .table ∙ sym (y .table), x .places ∙ sym (y .places))
 
 module _ (text ns ms : List ℕ) {ns′ ns″ ms′ ms″ answer answer′ : List ℕ} where
   pub doorhollow_read-one : ReadsInto (outcomeOf (reading (nodeRoom ns) (numberRoom ms) text)) ns ms ns′ ms′ answer → ReadsInto (outcomeOf (reading (nodeRoom ns) (numberRoom ms) text)) ns ms ns″ ms″ answer′ → (ns′ ≡ ns″) × (ms′ ≡ ms″) × (answer ≡ answer′)
@@ -44,6 +52,10 @@ module _ (text nodes numbers out : List ℕ) {out′ out″ answer answer′ : L
 
   pub doorhollow_write_stored_1-one : WritesInto (storedOf version1 text nodes numbers) (length out) out′ answer → WritesInto (storedOf version1 text nodes numbers) (length out) out″ answer′ → (out′ ≡ out″) × (answer ≡ answer′)
   doorhollow_write_stored_1-one = writes-one
+
+module _ (text nodes numbers : List ℕ) (t : List ℤ) {t′ t″ : List ℤ} {answer answer′ : List ℕ} where
+  pub doorhollow_boxes-one : BoxesInto (answerOf (boxesOf text nodes numbers (boxRoom t))) (usedBoxes (boxesOf text nodes numbers (boxRoom t))) t t′ answer → BoxesInto (answerOf (boxesOf text nodes numbers (boxRoom t))) (usedBoxes (boxesOf text nodes numbers (boxRoom t))) t t″ answer′ → (t′ ≡ t″) × (answer ≡ answer′)
+  doorhollow_boxes-one = fills-one
 
 pub doorhollow_strict-one : (text nodes numbers : List ℕ) → One (λ answer. answer ≡ strictPlaces (strictOf text nodes numbers))
 doorhollow_strict-one text nodes numbers = one

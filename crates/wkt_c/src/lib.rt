@@ -9,7 +9,9 @@ ghost use Rattle.to_wkt.specs.Canonical.{storeText};
 ghost use Rattle.to_wkt.specs.Write.{outputOf};
 ghost use Rattle.stored_form.specs.Form.{version1, storedOf};
 ghost use Rattle.stored_form.specs.Reading.{readingOf};
-ghost use Rattle.c_answers.specs.Answers.{ReadsInto, WritesInto, strictPlaces, inferPlaces};
+ghost use Rattle.bounds.specs.Bounds.{boxRoom};
+ghost use Rattle.node_boxes.specs.Boxes.{boxesOf, answerOf, usedBoxes};
+ghost use Rattle.c_answers.specs.Answers.{ReadsInto, WritesInto, BoxesInto, strictPlaces, inferPlaces};
 ghost use Rattle.rooms.specs.Rooms.{enoughRows};
 ghost use Rattle.strict.specs.Strict.{strictOf};
 ghost use Rattle.infer_type.specs.Infer.{inferType};
@@ -94,6 +96,21 @@ pub extern "C" fn doorhollow_strict(
 {
     let a = strict::strict(text, nodes, numbers);
     *answer = c_answers::strict_places(a);
+}
+
+// `node_boxes::boxes`. The answer is number, place.
+#[no_mangle]
+pub extern "C" fn doorhollow_boxes(
+    text: &[u8],
+    nodes: &[u32],
+    numbers: &[u32],
+    table: &mut [i64],
+    answer: &mut [u64; ANSWER_PLACES],
+)
+    ensures { λ _. ⌜ BoxesInto (answerOf (boxesOf (now (text .entry)) (now (nodes .entry)) (now (numbers .entry)) (boxRoom (now (table .entry))))) (usedBoxes (boxesOf (now (text .entry)) (now (nodes .entry)) (now (numbers .entry)) (boxRoom (now (table .entry))))) (now (table .entry)) (now (table .exit)) (now (answer .exit)) ⌝ }
+{
+    let a = node_boxes::boxes(text, nodes, numbers, table);
+    *answer = c_answers::box_places(a);
 }
 
 // `infer_type::infer_type`. The answer is number, place, kind, dimension.

@@ -1,6 +1,7 @@
 //! Cases: a text with what is asked of it.
 
 use crate::any_bytes;
+use crate::box_cases;
 use crate::damage;
 use crate::grammar;
 use crate::model::{self, Limits};
@@ -10,7 +11,15 @@ use crate::stored_cases;
 use driver::record::{Record, Request, MAX_SLICE};
 
 /// The programs that answer records, and the letters that each of them knows so far.
-pub const PROGRAMS: [(&str, &str); 2] = [("replay", "tpriws"), ("replay_stored", "SL")];
+pub const PROGRAMS: [(&str, &str); 3] = [
+    ("replay", "tpriws"),
+    ("replay_stored", "SL"),
+    (BOXES_PROGRAM, "b"),
+];
+pub const BOXES_PROGRAM: &str = "replay_store";
+
+/// The letters of a run that names none.
+pub const USUAL_LETTERS: &str = "tpriwsSL";
 
 /// The letters of those programs.
 #[derive(Clone, Copy, Debug, PartialEq, Eq)]
@@ -23,6 +32,7 @@ pub enum Letter {
     Check,
     WriteStored,
     ReadStored,
+    Boxes,
 }
 
 impl Letter {
@@ -36,6 +46,7 @@ impl Letter {
             's' => Some(Letter::Check),
             'S' => Some(Letter::WriteStored),
             'L' => Some(Letter::ReadStored),
+            'b' => Some(Letter::Boxes),
             _ => None,
         }
     }
@@ -46,7 +57,7 @@ impl Letter {
     }
 
     /// What is asked of the text under this letter, its fields and rows drawn. Of a stored
-    /// form the text is what it is made of; some readings are of another text.
+    /// form the text is what it is made of; some readings and most boxes are of another text.
     pub fn case(self, random: &mut Random, text: Vec<u8>) -> Case {
         let request = match self {
             Letter::Take => {
@@ -70,6 +81,7 @@ impl Letter {
             }
             Letter::WriteStored => return stored_cases::writing(random, text),
             Letter::ReadStored => return stored_cases::reading(random, &text),
+            Letter::Boxes => return box_cases::case(random, text),
         };
         Case { request, text }
     }

@@ -3,6 +3,7 @@
 //! model says.
 
 use crate::any_bytes;
+use crate::boxes;
 use crate::cases::Case;
 use crate::model::{self, Limits, Refusal, Store, NO_NODE_ROW, NO_NUMBER_ROW, TOO_DEEP};
 use crate::stored::{self, Room, NO_FIT};
@@ -30,8 +31,8 @@ pub enum Basis {
     Place,
     /// The model: it ends at a limit that the Rust doesn't have.
     Limit,
-    /// The models of stores and of the stored form, of which the Rust knows nothing; it
-    /// reads the canonical text.
+    /// The models of stores, of the stored form and of boxes, of which the Rust knows
+    /// nothing; it reads the canonical text.
     Stores,
 }
 
@@ -80,6 +81,7 @@ pub fn expected(case: &Case) -> Expected {
             let room = Room::of(*nodes, *numbers);
             Expected::of_store(stored_reading_line(&case.text, room))
         }
+        Request::Boxes { table, rows } => Expected::of_store(boxes_line(&case.text, rows, *table)),
     }
 }
 
@@ -287,6 +289,16 @@ fn checking_line(text: &[u8], rows: &Rows) -> String {
     format!("0 {letter} {row}")
 }
 
+fn boxes_line(text: &[u8], rows: &Rows, places: u32) -> String {
+    match boxes::table(text, rows, places as usize) {
+        Ok(table) => {
+            let values = table.iter().flatten().map(i64::to_string);
+            format!("0 0 ; {} ; 0", values.collect::<Vec<_>>().join(" "))
+        }
+        Err(refusal) => format!("{} {} ;  ; 0", refusal.number(), refusal.place),
+    }
+}
+
 fn inference_line(bytes: &[u8]) -> String {
     let text = match readable(bytes) {
         Ok(text) => text,
@@ -411,6 +423,26 @@ mod tests {
         assert_eq!(read(2, 4, bytes), "3 8 0 0 ;  ;  ; 0");
         assert_eq!(read(3, 3, bytes), "4 19 0 0 ;  ;  ; 0");
         assert_eq!(read(0, 0, &bytes[..22]), "25 19 0 0 ;  ;  ; 0");
+    }
+
+    #[test]
+    fn boxes() {
+        let line = |table, text: &str| {
+            let length = text.len() as u32 - 3;
+            let rows = Rows {
+                nodes: vec![4, 0, 1, 1, 0, 1],
+                numbers: vec![0, 2, 3, length],
+            };
+            answer(Request::Boxes { table, rows }, text.as_bytes()).line
+        };
+        let row = "1 -10000000 -10000000 0 1";
+        let accepted = format!("0 0 ; {row} {row} ; 0");
+        assert_eq!(line(10, "-1 0.00000005"), accepted);
+        assert_eq!(line(14, "-1 0.00000005"), accepted);
+        assert_eq!(line(9, "-1 0.00000005"), "23 0 ;  ; 0");
+        assert_eq!(line(0, "-1 0.00000005e"), "22 0 ;  ; 0");
+        assert_eq!(line(10, "-1 0e10000"), "31 3 ;  ; 0");
+        assert_eq!(line(10, "-1 -inFiNity"), "30 3 ;  ; 0");
     }
 
     #[test]

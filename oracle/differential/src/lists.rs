@@ -6,6 +6,7 @@
 
 use crate::bad_number_lists;
 use crate::bad_numbers::{GOES_WRONG, NOTHING_AFTER_PLUS};
+use crate::boxes;
 use crate::cases::{self, Case, Letter};
 use crate::expected::expected;
 use crate::random::Random;
@@ -336,8 +337,9 @@ pub fn point_and_blanks(length: usize) -> String {
 }
 
 /// A refusal's number with, of 22, the clause that is broken, of 25, what is wrong with which
-/// field and, of a bad number, whether it stands at the root; or 0 with the kind that was read or written or, of the strict check, a
-/// rule's letter.
+/// field, of 30 and 31, what is wrong with X or with Y and, of a bad number, whether it stands at
+/// the root; or 0 with the kind that was read or written, of boxes with the dimension too, or, of
+/// the strict check, a rule's letter.
 type Class = (u32, u32);
 
 /// Generated texts under one letter, spread evenly over the classes of answers and, in
@@ -368,7 +370,7 @@ fn is_small(case: &Case) -> bool {
     let places = |rows: &Rows| rows.nodes.len() + rows.numbers.len();
     match &case.request {
         Request::Write { rows, .. } | Request::Check { rows } => places(rows) <= MOST_PLACES,
-        Request::WriteStored { rows, .. } => {
+        Request::WriteStored { rows, .. } | Request::Boxes { rows, .. } => {
             places(rows) <= MOST_PLACES && case.text.len() <= MOST_BYTES
         }
         Request::ReadStored { .. } => case.text.len() <= MOST_BYTES,
@@ -387,6 +389,8 @@ fn class(case: &Case) -> Class {
         // `0 0 NODES NUMBERS ; KIND ..`
         (0, Request::Read { .. } | Request::ReadStored { .. }) => (0, numbers[4]),
         (0, Request::Write { rows, .. } | Request::WriteStored { rows, .. }) => (0, rows.nodes[0]),
+        // Every kind and dimension.
+        (0, Request::Boxes { rows, .. }) => (0, 8 * rows.nodes[1] + rows.nodes[0]),
         // `0 LETTER ROW`
         (0, Request::Check { .. }) => (0, numbers[1]),
         // `0 0 KIND DIMENSION`
@@ -400,6 +404,10 @@ fn class(case: &Case) -> Class {
         (refusal, Request::ReadStored { nodes, numbers }) => {
             let read = stored::read(&case.text, Room::of(*nodes, *numbers));
             (refusal, read.expect_err("it is refused").sort())
+        }
+        (refusal, Request::Boxes { table, rows }) => {
+            let table = boxes::table(&case.text, rows, *table as usize);
+            (refusal, table.expect_err("it is refused").sort())
         }
         (refusal @ (NOTHING_AFTER_PLUS | GOES_WRONG), _) => {
             (refusal, u32::from(begins_with_number(&case.text)))

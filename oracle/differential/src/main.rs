@@ -1,15 +1,23 @@
-//! Holds the replay programs beside the Rust, and beside the models of stores and of the
-//! stored form where the Rust has none: makes texts from a seed, runs both on the same
+//! Holds the replay programs beside the Rust, and beside the models of stores, of the stored
+//! form and of boxes where the Rust has none: makes texts from a seed, runs both on the same
 //! records and stops at the first difference, made as small as it gets. With `--list` it
 //! writes a fixed list of records and their answers instead, with `--stored-list` that of
-//! the program `replay_stored`, and with `--tokens` that of the program `tokens`.
+//! the program `replay_stored`, with `--box-list` that of the program `replay_store`, and
+//! with `--tokens` that of the program `tokens`. With `--envelopes` it holds boxes beside the
+//! envelopes of GEOS.
 
 mod any_bytes;
 mod bad_number_lists;
 mod bad_numbers;
+mod box_cases;
+mod box_lists;
+mod box_numbers;
+mod boxes;
 mod cases;
 mod check;
+mod compare_boxes;
 mod damage;
+mod exact;
 mod expected;
 mod grammar;
 mod lists;
@@ -30,7 +38,7 @@ mod stores;
 mod texts;
 mod token_list;
 
-use cases::{Case, Letter, PROGRAMS};
+use cases::{Case, Letter, BOXES_PROGRAM, PROGRAMS, USUAL_LETTERS};
 use check::{check, Fault, Tally};
 use random::Random;
 use replay::Replay;
@@ -46,7 +54,9 @@ const USAGE: &str = "usage: differential [--letters LETTERS] --run PROGRAM SEED 
        differential [--letters LETTERS] --replay PROGRAM SEED COUNT
        differential --list SEED COUNT DIRECTORY
        differential --stored-list SEED COUNT DIRECTORY
-       differential --tokens DIRECTORY";
+       differential --box-list SEED COUNT DIRECTORY
+       differential --tokens DIRECTORY
+       differential --envelopes PROGRAM [--run PROGRAM | --replay PROGRAM] FILES";
 
 /// What is written or compared.
 #[derive(Clone, Copy, PartialEq, Eq)]
@@ -54,7 +64,9 @@ enum Mode {
     Compare,
     List,
     StoredList,
+    BoxList,
     Tokens,
+    Envelopes,
 }
 
 struct Options {
@@ -64,6 +76,8 @@ struct Options {
     run: Option<PathBuf>,
     /// Answers all letters itself.
     replay: Option<PathBuf>,
+    /// Answers texts with the envelopes of GEOS.
+    envelopes: Option<PathBuf>,
     rest: Vec<String>,
 }
 
@@ -73,6 +87,7 @@ fn options(mut arguments: impl Iterator<Item = String>) -> Option<Options> {
         letters: None,
         run: None,
         replay: None,
+        envelopes: None,
         rest: Vec::new(),
     };
     while let Some(argument) = arguments.next() {
@@ -82,7 +97,12 @@ fn options(mut arguments: impl Iterator<Item = String>) -> Option<Options> {
             "--replay" => options.replay = Some(PathBuf::from(arguments.next()?)),
             "--list" => options.mode = Mode::List,
             "--stored-list" => options.mode = Mode::StoredList,
+            "--box-list" => options.mode = Mode::BoxList,
             "--tokens" => options.mode = Mode::Tokens,
+            "--envelopes" => {
+                options.mode = Mode::Envelopes;
+                options.envelopes = Some(PathBuf::from(arguments.next()?));
+            }
             _ => options.rest.push(argument),
         }
     }
@@ -110,7 +130,7 @@ fn asked(options: &Options) -> Option<Vec<Asked>> {
     }
     let run = options.run.as_ref()?;
     let all = PROGRAMS.map(|(_, known)| known).concat();
-    let letters = options.letters.as_deref().unwrap_or(&all);
+    let letters = options.letters.as_deref().unwrap_or(USUAL_LETTERS);
     if !letters.chars().all(|letter| all.contains(letter)) {
         return None;
     }
@@ -123,6 +143,17 @@ fn asked(options: &Options) -> Option<Vec<Asked>> {
             .collect(),
     });
     Some(programs.filter(|asked| !asked.letters.is_empty()).collect())
+}
+
+/// Boxes of the model and, if there is one, of a program beside GEOS; `None` without files.
+fn envelopes(options: &Options) -> Option<io::Result<bool>> {
+    let by_name = |run| Replay::new(run, &[BOXES_PROGRAM]);
+    let by_itself = |program| Replay::new(program, &[]);
+    let (run, replay) = (options.run.as_deref(), options.replay.as_deref());
+    let program = replay.map(by_itself).or_else(|| run.map(by_name));
+    let files: Vec<PathBuf> = options.rest.iter().map(PathBuf::from).collect();
+    let geos = options.envelopes.as_deref()?;
+    (!files.is_empty()).then(|| compare_boxes::compare(geos, program.as_ref(), &files))
 }
 
 fn main() -> ExitCode {
@@ -149,6 +180,9 @@ fn run(options: Options) -> Option<io::Result<bool>> {
         };
         return Some(token_list::write(directory.as_ref()).map(|()| true));
     }
+    if options.mode == Mode::Envelopes {
+        return envelopes(&options);
+    }
     let seed = options.rest.first()?.parse().ok()?;
     let count = options.rest.get(1)?.parse().ok()?;
     let directory = options.rest.get(2).map(Path::new);
@@ -158,6 +192,9 @@ fn run(options: Options) -> Option<io::Result<bool>> {
         }
         (Mode::StoredList, Some(directory), None) => {
             Some(stored_lists::write(seed, count, directory).map(|()| true))
+        }
+        (Mode::BoxList, Some(directory), None) => {
+            Some(box_lists::write(seed, count, directory).map(|()| true))
         }
         (Mode::Compare, None, None) => Some(compare(&asked(&options)?, seed, count)),
         _ => None,
@@ -205,6 +242,7 @@ fn largest(letters: &[Letter]) -> Vec<Case> {
     let is_asked = |case: &Case| letters.iter().any(|letter| letter.asks(&case.request));
     let cases = store_lists::largest().into_iter();
     let cases = cases.chain(stored_lists::largest());
+    let cases = cases.chain(box_lists::largest());
     cases.filter(is_asked).collect()
 }
 

@@ -65,6 +65,9 @@ fn described(request: &Request) -> String {
             format!("{letter}, output {output}, {}", described_rows(rows))
         }
         Request::Check { rows } => format!("{letter}, {}", described_rows(rows)),
+        Request::Boxes { table, rows } => {
+            format!("{letter}, table {table}, {}", described_rows(rows))
+        }
         Request::Infer => letter.to_string(),
     }
 }

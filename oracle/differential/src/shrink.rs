@@ -3,7 +3,7 @@
 use crate::cases::Case;
 use crate::check::{check, Fault, Tally};
 use crate::replay::Replay;
-use crate::smaller_stores::smaller;
+use crate::smaller_stores::{much_smaller, smaller};
 use crate::stored_cases;
 use driver::record::{Request, Rows};
 use std::io;
@@ -11,6 +11,9 @@ use std::io;
 /// Candidates are tried together in one run of the replay program, up to so many
 /// bytes; a text or a store that needs more is left as it is.
 const MAX_ROUND_BYTES: usize = 1 << 26;
+
+/// So many much smaller stores are tried in one run.
+const MUCH_SMALLER_TRIED: usize = 64;
 
 fn fault(replay: &Replay, cases: &[Case]) -> io::Result<Option<Fault>> {
     check(replay, cases, &mut Tally::new())
@@ -36,6 +39,9 @@ pub fn single_case(replay: &Replay, cases: &[Case]) -> io::Result<Option<Case>> 
 /// A case with a fault, of which no smaller one was found.
 pub fn smallest(replay: &Replay, case: Case) -> io::Result<Case> {
     let mut smallest = case;
+    while let Some(case) = single_case(replay, &with_much_smaller_store(&smallest))? {
+        smallest = case;
+    }
     let mut step = smallest.text.len().div_ceil(2);
     while step > 0 {
         let smaller = match round_bytes(&smallest, step) > MAX_ROUND_BYTES {
@@ -63,7 +69,8 @@ fn places(request: &Request) -> usize {
     match request {
         Request::Write { rows, .. }
         | Request::Check { rows }
-        | Request::WriteStored { rows, .. } => rows.nodes.len() + rows.numbers.len(),
+        | Request::WriteStored { rows, .. }
+        | Request::Boxes { rows, .. } => rows.nodes.len() + rows.numbers.len(),
         _ => 0,
     }
 }
@@ -128,12 +135,31 @@ fn moved_back(request: &Request, start: usize, end: usize) -> Request {
             output: *output,
             rows: moved_rows(rows),
         },
+        Request::Boxes { table, rows } => Request::Boxes {
+            table: *table,
+            rows: shortened_rows(rows, start, end),
+        },
         other => other.clone(),
     }
 }
 
+/// The rows after the bytes from `start` to `end` were taken out: a number that had some of
+/// them is shorter, since of a box it is the digits that matter.
+fn shortened_rows(rows: &Rows, start: usize, end: usize) -> Rows {
+    // A place behind the bytes moves back by all of them, one among them to their start.
+    let moved = |place: u64| place - (place.clamp(start as u64, end as u64) - start as u64);
+    let mut rows = rows.clone();
+    for span in rows.numbers.chunks_exact_mut(2) {
+        let first = u64::from(span[0]);
+        let last = first + u64::from(span[1]);
+        span[0] = moved(first) as u32;
+        span[1] = (moved(last) - moved(first)) as u32;
+    }
+    rows
+}
+
 /// The same text, with fewer tokens demanded or from the start, a smaller store or a
-/// smaller output; or the stored bytes of a smaller store.
+/// smaller output or table; or the stored bytes of a smaller store.
 fn with_simpler_fields(case: &Case) -> Vec<Case> {
     if store_bytes(case) > MAX_ROUND_BYTES {
         return Vec::new();
@@ -155,6 +181,9 @@ fn with_simpler_fields(case: &Case) -> Vec<Case> {
             let stores = smaller(&case.text, rows).into_iter();
             stores.map(|rows| Request::Check { rows }).collect()
         }
+        Request::Boxes { table, rows } => simpler_writings(&case.text, *table, rows)
+            .map(|(table, rows)| Request::Boxes { table, rows })
+            .collect(),
         Request::ReadStored { nodes, numbers } => {
             return simpler_stored_readings(&case.text, *nodes, *numbers)
         }
@@ -165,6 +194,27 @@ fn with_simpler_fields(case: &Case) -> Vec<Case> {
         text: case.text.clone(),
     });
     with_text.collect()
+}
+
+/// Boxes of a large store are tried on much smaller ones first: they print a row for every
+/// node.
+fn with_much_smaller_store(case: &Case) -> Vec<Case> {
+    let Request::Boxes { table, rows } = &case.request else {
+        return Vec::new();
+    };
+    if store_bytes(case) <= MAX_ROUND_BYTES {
+        return Vec::new();
+    }
+    let stores = much_smaller(&case.text, rows).into_iter();
+    let stores = stores.take(MUCH_SMALLER_TRIED);
+    let cases = stores.map(|rows| Case {
+        request: Request::Boxes {
+            table: *table,
+            rows,
+        },
+        text: case.text.clone(),
+    });
+    cases.collect()
 }
 
 fn simpler_demands(place: u32, count: u32) -> impl Iterator<Item = (u32, u32)> {
@@ -204,4 +254,26 @@ fn simpler_stored_readings(bytes: &[u8], nodes: u32, numbers: u32) -> Vec<Case> 
         })
     });
     cases.collect()
+}
+
+#[cfg(test)]
+mod tests {
+    use super::*;
+
+    #[test]
+    fn numbers_are_shortened_with_their_text() {
+        // "12345 678": 2345 and 678, then without bytes 1 to 3, 3 to 7, 0 to 1 and 8 to 9
+        let rows = Rows {
+            nodes: vec![],
+            numbers: vec![1, 4, 6, 3, u32::MAX, u32::MAX],
+        };
+        let shortened = |start, end| {
+            let numbers = shortened_rows(&rows, start, end).numbers;
+            numbers[..4].to_vec()
+        };
+        assert_eq!(shortened(1, 3), [1, 2, 4, 3]);
+        assert_eq!(shortened(3, 7), [1, 2, 3, 2]);
+        assert_eq!(shortened(0, 1), [0, 4, 5, 3]);
+        assert_eq!(shortened(8, 9), [1, 4, 6, 2]);
+    }
 }

@@ -24,6 +24,49 @@ pub fn smaller(text: &[u8], rows: &Rows) -> Vec<Rows> {
     found
 }
 
+/// Much smaller ones than a well-formed store: the first half of the root's parts, the second
+/// half, and each of its children by itself.
+pub fn much_smaller(text: &[u8], rows: &Rows) -> Vec<Rows> {
+    let Ok(root) = stores::tree(text, rows) else {
+        return Vec::new();
+    };
+    // Where each part of the root begins, and where the last one ends: node rows, number rows.
+    let mut starts = vec![(1, 0)];
+    let width = WIDTHS[root.dimension as usize];
+    let coordinates = root.coordinates().iter().map(|_| (0, width));
+    let children = root.children().iter().map(counts);
+    for (nodes, numbers) in coordinates.chain(children) {
+        let (node, number) = starts[starts.len() - 1];
+        starts.push((node + nodes, number + numbers));
+    }
+    let between = |first: usize, last: usize| Rows {
+        nodes: rows.nodes[3 * starts[first].0..3 * starts[last].0].to_vec(),
+        numbers: rows.numbers[2 * starts[first].1..2 * starts[last].1].to_vec(),
+    };
+    let parts = starts.len() - 1;
+    let half = |first: usize, last: usize| {
+        let mut half = between(first, last);
+        let root = [root.kind, root.dimension, (last - first) as u32];
+        half.nodes.splice(0..0, root);
+        half
+    };
+    let alone = (0..root.children().len()).map(|child| between(child, child + 1));
+    let halves = match parts {
+        0 | 1 => Vec::new(),
+        _ => vec![half(0, parts / 2), half(parts / 2, parts)],
+    };
+    halves.into_iter().chain(alone).collect()
+}
+
+/// How many node rows and number rows a node has with all below it.
+fn counts(node: &Node) -> (usize, usize) {
+    let own = WIDTHS[node.dimension as usize] * node.coordinates().len();
+    let below = node.children().iter().map(counts);
+    below.fold((1, own), |(nodes, numbers), (more_nodes, more_numbers)| {
+        (nodes + more_nodes, numbers + more_numbers)
+    })
+}
+
 /// Without these node rows and number rows.
 fn without(rows: &Rows, nodes: Range<usize>, numbers: Range<usize>) -> Rows {
     let drain = |slice: &mut Vec<u32>, rows: Range<usize>, width: usize| {
@@ -68,6 +111,34 @@ impl Walk<'_> {
 #[cfg(test)]
 mod tests {
     use super::*;
+
+    #[test]
+    fn parts_of_the_root_by_themselves() {
+        let text = b"1 2 3 4";
+        let collection = Rows {
+            nodes: vec![7, 0, 3, 4, 0, 1, 1, 0, 1, 1, 1, 0, 2, 0, 1],
+            numbers: vec![0, 1, 2, 1, 4, 1, 6, 1],
+        };
+        let rows = |nodes: &[u32], numbers: &[u32]| Rows {
+            nodes: nodes.to_vec(),
+            numbers: numbers.to_vec(),
+        };
+        let expected = [
+            rows(&[7, 0, 1, 4, 0, 1, 1, 0, 1], &[0, 1, 2, 1]),
+            rows(&[7, 0, 2, 1, 1, 0, 2, 0, 1], &[4, 1, 6, 1]),
+            rows(&[4, 0, 1, 1, 0, 1], &[0, 1, 2, 1]),
+            rows(&[1, 1, 0], &[]),
+            rows(&[2, 0, 1], &[4, 1, 6, 1]),
+        ];
+        assert_eq!(much_smaller(text, &collection), expected);
+        let line = rows(&[2, 0, 2], &[0, 1, 2, 1, 4, 1, 6, 1]);
+        let expected = [
+            rows(&[2, 0, 1], &[0, 1, 2, 1]),
+            rows(&[2, 0, 1], &[4, 1, 6, 1]),
+        ];
+        assert_eq!(much_smaller(text, &line), expected);
+        assert_eq!(much_smaller(text, &expected[0]), []);
+    }
 
     #[test]
     fn a_node_goes_with_its_numbers() {

@@ -79,7 +79,7 @@ pub fn room_near(random: &mut Random, length: usize) -> u32 {
 }
 
 /// A tree made of what numbers the text has.
-fn made(random: &mut Random, text: &[u8]) -> Rows {
+pub fn made(random: &mut Random, text: &[u8]) -> Rows {
     let number = lexeme(random, text);
     let mut maker = Maker {
         random,
@@ -190,7 +190,7 @@ impl Maker<'_> {
 }
 
 /// One change of a place, of a row, or of a slice's length.
-fn change(random: &mut Random, text: &[u8], rows: &mut Rows) {
+pub fn change(random: &mut Random, text: &[u8], rows: &mut Rows) {
     let in_nodes = random.once_in(2);
     let (slice, width) = match in_nodes {
         true => (&mut rows.nodes, 3),

@@ -430,7 +430,12 @@ const BODIES: [(&str, [&str; 3]); 6] = [
 const ENDINGS: [&str; 4] = ["", " Z", " M", " ZM"];
 
 pub fn of_every_kind() -> Vec<Lent> {
-    let mut numbers = NUMBERS.iter().cycle();
+    of_every_kind_with(&NUMBERS)
+}
+
+/// The same with these number texts.
+pub fn of_every_kind_with(numbers: &[&str]) -> Vec<Lent> {
+    let mut numbers = numbers.iter().cycle();
     let mut texts = Vec::new();
     for (dimension, ending) in ENDINGS.iter().enumerate() {
         for (name, bodies) in BODIES {

@@ -24,11 +24,12 @@ pub fn line(record: &Record) -> String {
         Request::LookAndTake { place, count } => {
             token_line(text, place, count, Demand::LookAndTake)
         }
-        // The Rust has neither stores nor a strict check nor a stored form.
+        // The Rust has neither stores nor a strict check nor a stored form nor boxes.
         Request::Write { .. }
         | Request::Check { .. }
         | Request::WriteStored { .. }
-        | Request::ReadStored { .. } => BAD_RECORD.to_string(),
+        | Request::ReadStored { .. }
+        | Request::Boxes { .. } => BAD_RECORD.to_string(),
         // The Rust's trees have no limit, so the slices' lengths mean nothing to it.
         Request::Read { .. } => reader::line(&reader::read(text)),
         Request::Infer => inferred::line(&inferred::infer(text)),

@@ -37,6 +37,8 @@ pub enum Request {
     /// `L`: the stored reader, lent two slices of these lengths; the text is the stored
     /// bytes.
     ReadStored { nodes: u32, numbers: u32 },
+    /// `b`: the boxes, lent these rows and a table of so many i64 places.
+    Boxes { table: u32, rows: Rows },
 }
 
 #[derive(Clone, Debug, PartialEq, Eq)]
@@ -56,6 +58,7 @@ impl Request {
             Request::Infer => b'i',
             Request::WriteStored { .. } => b'S',
             Request::ReadStored { .. } => b'L',
+            Request::Boxes { .. } => b'b',
         }
     }
 
@@ -73,6 +76,7 @@ impl Request {
                 [vec![STORED_VERSION, *output], rows.fields()].concat()
             }
             Request::ReadStored { nodes, numbers } => vec![STORED_VERSION, *nodes, *numbers],
+            Request::Boxes { table, rows } => [vec![*table], rows.fields()].concat(),
         }
     }
 }
@@ -200,6 +204,17 @@ mod tests {
         assert_eq!(write.fields(), [1, 15, 3, 0, 1, 0, 0]);
         assert_eq!(read.fields(), [1, 3, 2]);
         assert_eq!([write.letter(), read.letter()], *b"SL");
+    }
+
+    #[test]
+    fn the_table_stands_before_the_slices() {
+        let rows = Rows {
+            nodes: vec![1, 0, 0],
+            numbers: vec![],
+        };
+        let boxes = Request::Boxes { table: 8, rows };
+        assert_eq!(boxes.fields(), [8, 3, 0, 1, 0, 0]);
+        assert_eq!(boxes.letter(), b'b');
     }
 
     #[test]

@@ -1,0 +1,13 @@
+pub mod Value
+pub mod Parts
+pub mod Sizes
+pub mod Exact
+pub mod Digits
+pub mod Loops
+pub mod Texts
+pub mod Plainly
+pub mod Lexemes
+pub mod Scales
+pub mod Same
+pub mod Bounds
+pub mod Reckonings

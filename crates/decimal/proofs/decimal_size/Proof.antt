@@ -1,0 +1,82 @@
+-- `decimal::decimal_size` meets its contract: what is kept of its digits comes to its size.
+-- Assumes nothing.
+use Prim.Native.Nat.{_≤_}
+use native.Mathlib.Omega.{arith}
+use borrow.Author.Needs.{needs}
+use lib.ListN.{length}
+use Rattle.decimal.proofs.Scales.{first-inside, first-later, all-later, all-inside, size-far, size-lowered, size-raised}
+use Rattle.decimal.proofs.decimal_size.Statement.{statement}
+use Rattle.decimal.proofs.decimal_size.Tie as tie
+
+keep-digits-requires : tie.Need-keep-digits-requires
+keep-digits-requires c κs = (omega arith, omega arith, c .before .pre)
+
+after-point-requires : tie.Need-after-point-requires
+after-point-requires c κs = search needs
+
+keep-digits-requires-2 : tie.Need-keep-digits-requires-2
+keep-digits-requires-2 c κs = let k = c .before .keep-digits in
+    let f = c .after-point in
+    let later = first-later (c .before .before .before .args .w .now) (c .before .before .before .args .from) (k .result) (k .ensures) (f .result) (f .ensures) in
+    (k .ensures .value, omega (arith, k .ensures .dropped, later), first-inside _ _ _ (k .ensures) _ (f .ensures))
+
+read-exponent-requires : tie.Need-read-exponent-requires
+read-exponent-requires c κs = search needs
+
+returns : tie.Need-returns
+returns c = let r = c .before .before in
+    size-far _ _ _ (r .before .before .before .keep-digits .ensures) _ (r .before .before .after-point .ensures) _ (r .before .keep-digits2 .ensures) _ (r .read-exponent .ensures) (c .if1 .taken)
+
+-- where the digits end is no place past the text's end
+inside : (r : tie.After-keep-digits2) → r .keep-digits2 .result .end ≤ length (r .before .before .before .before .args .w .now)
+inside r =
+    let k = r .before .before .keep-digits in
+    let f = r .before .after-point in
+    all-inside (r .before .before .before .before .args .w .now) (r .before .before .before .before .args .from) (k .result) (k .ensures) (f .result) (f .ensures) (r .keep-digits2 .result) (r .keep-digits2 .ensures)
+
+add-above : tie.Need-add-above
+add-above c = let r = c .before .before .before .before in
+    omega (arith, r .keep-digits2 .ensures .dropped, inside r)
+
+sub-below : tie.Need-sub-below
+sub-below c = let r = c .before .before .before .before .before in
+    all-later _ _ _ (r .before .before .keep-digits .ensures) _ (r .before .after-point .ensures) _ (r .keep-digits2 .ensures)
+
+add-size-of : tie.Need-add-size-of
+add-size-of c = omega (arith, inside (c .before .before .before .before .before .before .before), c .before .before .before .before .if1 .left)
+
+size-of-requires : tie.Need-size-of-requires
+size-of-requires c κs = c .before .before .before .before .before .before .before .keep-digits2 .ensures .value
+
+returns-2 : tie.Need-returns-2
+returns-2 c = let r = c .before .before .before .before .before .before .before in
+    size-lowered _ _ _ (r .before .before .before .keep-digits .ensures) _ (r .before .before .after-point .ensures) _ (r .before .keep-digits2 .ensures) _ (r .read-exponent .ensures) (c .before .before .before .before .before .if1 .left) _ (c .before .before .if2 .taken) (c .size-of .ensures)
+
+add-size-of-2 : tie.Need-add-size-of-2
+add-size-of-2 c = let r = c .before .before .before .before .before .before .before in
+    omega (arith, r .keep-digits2 .ensures .dropped, inside r, c .before .before .before .before .if1 .left)
+
+size-of-requires-2 : tie.Need-size-of-requires-2
+size-of-requires-2 c κs = c .before .before .before .before .before .before .before .keep-digits2 .ensures .value
+
+returns-3 : tie.Need-returns-3
+returns-3 c = let r = c .before .before .before .before .before .before .before in
+    size-raised _ _ _ (r .before .before .before .keep-digits .ensures) _ (r .before .before .after-point .ensures) _ (r .before .keep-digits2 .ensures) _ (r .read-exponent .ensures) (c .before .before .before .before .before .if1 .left) _ (c .before .before .if2 .left) (c .size-of2 .ensures)
+
+pub decimal-size-spec : {M : Type 1} → statement M
+decimal-size-spec =
+    tie.close
+    (tie.spec
+    keep-digits-requires
+    after-point-requires
+    keep-digits-requires-2
+    read-exponent-requires
+    returns
+    add-above
+    sub-below
+    add-size-of
+    size-of-requires
+    returns-2
+    add-size-of-2
+    size-of-requires-2
+    returns-3)

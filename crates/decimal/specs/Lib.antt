@@ -1,0 +1,5 @@
+pub mod Decimal
+pub mod Units
+pub mod Reckon
+pub mod Code
+pub mod Examples

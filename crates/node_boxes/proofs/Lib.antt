@@ -1,0 +1,10 @@
+pub mod Numbers
+pub mod Offences
+pub mod Loops
+pub mod Algebra
+pub mod Rows
+pub mod Sides
+pub mod Totals
+pub mod Trees
+pub mod Tallies
+pub mod Whole
