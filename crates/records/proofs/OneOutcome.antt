@@ -15,7 +15,7 @@ use Rattle.records.specs.declared.input.State.{State}
 use Rattle.records.specs.declared.slices.Slices.{Slices}
 use Rattle.records.specs.Records.{hasTextAt, afterLengths, lentIn, filled, Loads}
 use Rattle.records.specs.Input.{frontOf, cutIn}
-use Rattle.records.specs.Lines.{badRecord, threeNumbers, readLine, writeLine}
+use Rattle.records.specs.Lines.{badRecord, threeNumbers, leftLine, readLine, writeLine}
 
 module _ (bytes : List ℕ) where
   pub field-one : (at : ℕ) → One (λ r. r ≡ u32At bytes at)
@@ -49,6 +49,9 @@ module _ (b : Buffer) where
 
   pub put_three-one : (first second third : ℕ) → One (λ left. left ≡ putAllIn (threeNumbers first second third) b)
   put_three-one first second third = one
+
+  pub «put_left_over-one» : (count : ℕ) → One (λ left. left ≡ putAllIn (leftLine count) b)
+  «put_left_over-one» count = one
 
   pub put_read-one : (a : ReadAnswer) (ns ms : List ℕ) → One (λ left. left ≡ putAllIn (readLine a ns ms) b)
   put_read-one a ns ms = one

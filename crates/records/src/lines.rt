@@ -32,7 +32,7 @@ pub fn put_three(out: &mut [u8], at: usize, first: usize, second: usize, third: 
 }
 
 // How many places aren't zero, and the line's end.
-fn put_left_over(out: &mut [u8], at: usize, count: usize) -> usize
+pub fn put_left_over(out: &mut [u8], at: usize, count: usize) -> usize
     ensures { λ r. ⌜ buffer (now (out .exit)) r ≡ putAllIn (leftLine count) (buffer (now (out .entry)) at) ⌝ }
 {
     let end = put(out, at, b" ;");
