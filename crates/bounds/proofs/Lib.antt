@@ -1,3 +1,4 @@
 pub mod Boxes
 pub mod Tables
 pub mod Closing
+pub mod OneOutcome

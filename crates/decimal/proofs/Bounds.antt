@@ -3,26 +3,18 @@
 use mathlib.Core.Path.{_≡_, refl, sym, ap, _∙_, subst}
 use mathlib.Core.Bool.{Bool, true, false, cond}
 use Prim.Native.Nat.{ℕ, zero, suc, _+_, _-_, _*_, _≤_, _<_, zero-le}
-use native.Mathlib.Nat.{zero-mul, add-mul, one-mul}
+use native.Mathlib.Nat.{zero-mul, add-mul, one-mul, mul-le-mul-right}
 use native.Mathlib.Omega.{arith}
-use lib.Dec.{T, ltb, le→leb, lt→ltb}
+use lib.Dec.{T, ltb, le→leb, leb→le, lt→ltb}
 use lib.IntN.{ℤ, pos, negsuc, negℤ, _+ℤ_, _-ℤ_, _*ℤ_, +ℤ-one, -ℤ-one, sucℤ-*ℤ, predℤ-*ℤ, negℤ-+ℤ}
 use lib.Signed.{ltZ, _≤ℤ_, _<ℤ_, leZ-yes, ltZ-yes}
 use borrow.Author.Tests.{ltb-true, ltb-false}
 use Rattle.rounding.specs.Rounding.{sizeLimit, outward, lowOf, highOf, isOver}
 use Rattle.rounding.proofs.Limits.{within, outward-within}
 use Rattle.decimal.specs.Decimal.{Decimal, denominator}
-use Rattle.decimal.specs.Units.{scaled, wholeUnits, isLeft, low, high, isLarge}
+use Rattle.decimal.specs.Units.{scaled, signed, exactUnits, wholeUnits, isLeft, low, high, isLarge}
 use Rattle.decimal.proofs.Parts.{Parts, none-left, some-left}
 use Rattle.decimal.proofs.Exact.{units-parts, large-over}
-
--- a size with its sign
-abbrev signed : Bool → ℕ → ℤ
-signed negative n = cond negative (negℤ (pos n)) (pos n)
-
--- the exact value in units is this number over the denominator
-abbrev pub exactUnits : Decimal → ℤ
-exactUnits x = signed (x .negative) (scaled x)
 
 -- ---- whole numbers with a sign
 pos-le : (a b : ℕ) → a ≤ b → pos a ≤ℤ pos b
@@ -50,6 +42,13 @@ neg-pos (suc a) b = leZ-yes tt
 neg-times : (a b : ℕ) → negℤ (pos a) *ℤ pos b ≡ negℤ (pos (a * b))
 neg-times zero b = ap pos (zero-mul b) ∙ ap (λ (z : ℕ). negℤ (pos z)) (sym (zero-mul b))
 neg-times (suc a) b = refl
+
+-- as many times as much keeps the order
+pub times-le : (a b : ℤ) (d : ℕ) → a ≤ℤ b → (a *ℤ pos d) ≤ℤ (b *ℤ pos d)
+times-le (pos a) (pos b) d h = pos-le (a * d) (b * d) (mul-le-mul-right d (leb→le a b (h .le)))
+times-le (pos a) (negsuc b) d h = absurd (h .le)
+times-le (negsuc a) (pos b) d h = neg-pos (suc a * d) (b * d)
+times-le (negsuc a) (negsuc b) d h = let l = leb→le b a (h .le) in neg-le (suc b * d) (suc a * d) (mul-le-mul-right d (omega (arith, l)))
 
 one-more : (a : ℤ) (d : ℕ) → (a +ℤ pos 1) *ℤ pos d ≡ a *ℤ pos d +ℤ pos d
 one-more a d = ap (λ (z : ℤ). z *ℤ pos d) (+ℤ-one a) ∙ sucℤ-*ℤ a (pos d)

@@ -11,3 +11,5 @@ pub mod Scales
 pub mod Same
 pub mod Bounds
 pub mod Reckonings
+pub mod Spellings
+pub mod OneOutcome

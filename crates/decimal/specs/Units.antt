@@ -1,9 +1,9 @@
 -- A decimal in units of a ten-millionth, rounded down and up (request 2026-03: "in units of a ten-millionth: lows rounded down, highs rounded up [..]
 -- Negative numbers round by the same rule, toward minus infinity for lows.").
-use mathlib.Core.Bool.{Bool, not}
+use mathlib.Core.Bool.{Bool, cond, not}
 use Prim.Native.Nat.{ℕ, _*_, _/_, _%_, _^_}
 use lib.Dec.{eqb, ltb}
-use lib.IntN.{ℤ}
+use lib.IntN.{ℤ, pos, negℤ}
 use Rattle.rounding.specs.Rounding.{sizeLimit, lowOf, highOf}
 use Rattle.decimal.specs.Decimal.{Decimal, numerator, denominator}
 
@@ -18,6 +18,13 @@ exponentLimit = 9999
 -- the size in units is this number over the denominator
 abbrev pub scaled : Decimal → ℕ
 scaled x = numerator x * 10 ^ unitPlaces
+
+-- "The definition is the exact decimal as a fraction of whole numbers.": with its sign, the exact value in units is this number over the denominator
+abbrev pub signed : Bool → ℕ → ℤ
+signed negative n = cond negative (negℤ (pos n)) (pos n)
+
+abbrev pub exactUnits : Decimal → ℤ
+exactUnits x = signed (x .negative) (scaled x)
 
 -- whole units, and whether something is left over
 unfoldable pub wholeUnits : Decimal → ℕ

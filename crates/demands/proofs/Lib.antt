@@ -8,4 +8,5 @@ pub mod Demand3
 pub mod LaterBytes
 pub mod Rooms
 pub mod Stored
+pub mod Boxes
 pub mod Numbers

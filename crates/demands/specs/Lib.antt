@@ -9,5 +9,6 @@ pub mod Demand3
 pub mod LaterBytes
 pub mod Rooms
 pub mod Stored
+pub mod Boxes
 pub mod StoredExamples
 pub mod FormerExamples

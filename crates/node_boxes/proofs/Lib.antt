@@ -8,3 +8,7 @@ pub mod Totals
 pub mod Trees
 pub mod Tallies
 pub mod Whole
+pub mod Holds
+pub mod Beside
+pub mod Faults
+pub mod OneOutcome

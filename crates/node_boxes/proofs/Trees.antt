@@ -51,7 +51,7 @@ unfolding flatMap
 many-flat ro bo many [] = refl
 many-flat ro bo many (x ∷ xs) = let a = many x in let b = many-flat ro bo many xs in simp length-append (omega (arith, a, b))
 
-many-leaf : (k d : ℕ) (cs : List Coord) → length (leafBoxes cs) ≡ length (rowsWith k d noRows cs)
+pub many-leaf : (k d : ℕ) (cs : List Coord) → length (leafBoxes cs) ≡ length (rowsWith k d noRows cs)
 unfolding rowsWith
 many-leaf k d cs = ap suc (sym (no-rows cs))
 
@@ -59,10 +59,10 @@ many-nest : {X : Type 0} (k d : ℕ) (ro : X → List Row) (co : X → List Coor
 unfolding rowsWith nestBoxes
 many-nest k d ro co bo many xs = ap suc (many-flat ro bo many xs)
 
-many-line : (d : ℕ) (cs : List Coord) → length (leafBoxes cs) ≡ length (lineRows d cs)
+pub many-line : (d : ℕ) (cs : List Coord) → length (leafBoxes cs) ≡ length (lineRows d cs)
 many-line d cs = many-leaf kindLineString d cs
 
-many-polygon : (d : ℕ) (ls : List (List Coord)) → length (polygonBoxes ls) ≡ length (polygonRows d ls)
+pub many-polygon : (d : ℕ) (ls : List (List Coord)) → length (polygonBoxes ls) ≡ length (polygonRows d ls)
 many-polygon d ls = many-nest kindPolygon d (lineRows d) lineCoords leafBoxes (many-line d) ls
 
 many-node : {X : Type 0} (ro : X → List Row) (co : X → List Coord) (bo : X → List BoxRow) → ((x : X) → length (bo x) ≡ length (ro x)) → (n : Node X) → length (nodeBoxes co bo n) ≡ length (nodeRows ro n)
