@@ -1,15 +1,16 @@
 -- What the loops over digits have read at each turn.
 -- Assumes nothing.
 use mathlib.Core.Path.{_≡_, refl, sym, ap, _∙_}
-use mathlib.Core.Bool.{Bool, true, false, cond, not, _||_, _&&_, and-true, or-false}
+use mathlib.Core.Bool.{Bool, true, false, cond, not, _||_, _&&_, and-true}
 use mathlib.Core.List.{List, [], _∷_, _++_}
 use Prim.Native.Nat.{ℕ, suc, _+_, _-_, _*_, _^_, _≤_, _<_, min}
 use native.Mathlib.Nat.{pow-succ', pow-le-pow-right, zero-lt-suc}
 use native.Mathlib.Numerals.{add-one}
 use native.Mathlib.Omega.{arith}
 use lib.Dec.{eqb, ltb}
-use lib.ListN.{length, take, drop, getD, length-drop}
-use lib.Seq.{take-suc, getD-drop}
+use lib.ListN.{length, take, drop, getD, length-drop, take-append-drop}
+use lib.Seq.{take-suc, drop-drop, getD-drop}
+use borrow.Author.Tests.{ne-eqb}
 use Rattle.lists.specs.Lists.{every}
 use Rattle.rounding.specs.Rounding.{sizeLimit}
 use Rattle.scan.specs.Bytes.{isDigit}
@@ -20,10 +21,9 @@ use Rattle.scan.proofs.Front.{rest-in, rest-past}
 use Rattle.scan.proofs.Runs.{on, stop, past}
 use Rattle.number.proofs.Plain.{every-append}
 use Rattle.decimal.specs.declared.Kept.{Kept}
-use Rattle.decimal.specs.declared.Tail.{Tail}
 use Rattle.decimal.specs.declared.Tail.the-variants as tail
 use Rattle.decimal.specs.Decimal.{leading, readOn, valueOf}
-use Rattle.decimal.specs.Code.{rawOn, isNought, anyLeft, tailOf, keepOne, keepAll, Keeps}
+use Rattle.decimal.specs.Code.{rawOn, isNought, tailOf, keepOne, keepAll, Keeps}
 use Rattle.decimal.proofs.Value.{held-on}
 use Rattle.decimal.proofs.Digits.{leading-on, leading-stop, leading-past, part-on, part-stop, part-past}
 
@@ -85,35 +85,73 @@ module _ {w : List ℕ} {from to value i : ℕ} (h : Few w from to value i) wher
           ends = omega (arith, ap length e, h .ends);
         }
 
--- ---- all digits up to a text's end
-pub tailFrom : Bool → List ℕ → Tail
-tailFrom left l = cond (every isDigit l) (tail.Digits (left || anyLeft l)) tail.Other
+-- ---- digits up to a text's end, four at a time and one at a time: those from i on are digits if all are
+pub record DigitsFrom (w : List ℕ) (from i : ℕ) : Type 0 where
+  pub within : i ≤ length w
+  pub same : every isDigit (rest w i) ≡ every isDigit (rest w from)
 
-pub record TailFrom (w : List ℕ) (from : ℕ) (left : Bool) (i : ℕ) : Type 0 where
-  pub same : tailFrom left (rest w i) ≡ tailOf (rest w from)
+pub digits-none : (w : List ℕ) (from : ℕ) → from ≤ length w → DigitsFrom w from from
+digits-none w from h = record { within = h; same = refl }
 
-pub tail-none : (w : List ℕ) (from : ℕ) → TailFrom w from false from
-unfolding tailFrom tailOf
-tail-none w from = record { same = refl }
-
-module _ {w : List ℕ} {from i : ℕ} {left : Bool} (h : TailFrom w from left i) where
-  pub tail-end : length w ≤ i → tail.Digits left ≡ tailOf (rest w from)
-  unfolding tailFrom every
-  tail-end l = ap tail.Digits (sym (or-false left)) ∙ (rw (rest-past w i l) at (h .same))
+module _ {w : List ℕ} {from i : ℕ} (h : DigitsFrom w from i) where
+  pub digits-end : length w ≤ i → true ≡ every isDigit (rest w from)
+  unfolding every
+  digits-end l = rw (rest-past w i l) at (h .same)
 
   module _ (l : i < length w) where
-    pub tail-stop : isDigit (getD w i 0) ≡ false → tail.Other ≡ tailOf (rest w from)
-    unfolding tailFrom every
-    tail-stop t = rw (rest-in w i l, t) at (h .same)
+    pub digits-stop : isDigit (getD w i 0) ≡ false → false ≡ every isDigit (rest w from)
+    unfolding every
+    digits-stop t = rw (rest-in w i l, t) at (h .same)
 
-    pub tail-on : isDigit (getD w i 0) ≡ true → TailFrom w from (left || not (eqb (getD w i 0) 48)) (i + 1)
-    unfolding tailFrom every
-    tail-on t = record { same = ap (λ (x : Bool). cond (every isDigit (rest w (i + 1))) (tail.Digits x) tail.Other) (further left (isNought (getD w i 0)) (every isNought (rest w (i + 1)))) ∙ (rw (rest-in w i l, t) at (h .same)) }
-      where
-        further : (a b c : Bool) → ((a || not b) || not c) ≡ (a || not (b && c))
-        further true b c = refl
-        further false true c = refl
-        further false false c = refl
+    pub digits-on : isDigit (getD w i 0) ≡ true → DigitsFrom w from (i + 1)
+    unfolding every
+    digits-on t = record { within = omega arith; same = rw (rest-in w i l, t) at (h .same) }
+
+  module _ (l : 4 ≤ length w - i) where
+    split : every isDigit (rest w i) ≡ (every isDigit (take 4 (drop i w)) && every isDigit (rest w (i + 4)))
+    unfolding rest
+    split =
+        ap (every isDigit) (sym (take-append-drop 4 (drop i w)) ∙ ap (λ (x : List ℕ). take 4 (drop i w) ++ x) (drop-drop 4 i w))
+        ∙ every-append isDigit (take 4 (drop i w)) (drop (i + 4) w)
+
+    pub four-stop : every isDigit (take 4 (drop i w)) ≡ false → false ≡ every isDigit (rest w from)
+    four-stop t = rw (split, t) at (h .same)
+
+    pub four-on : every isDigit (take 4 (drop i w)) ≡ true → DigitsFrom w from (i + 4)
+    four-on t = record { within = omega (arith, h .within); same = rw (split, t) at (h .same) }
+
+-- ---- a text's tail: only zeros so far
+pub record TailFrom (w : List ℕ) (from i : ℕ) : Type 0 where
+  pub within : i ≤ length w
+  pub same : tailOf (rest w i) ≡ tailOf (rest w from)
+
+pub tail-none : (w : List ℕ) (from : ℕ) → from ≤ length w → TailFrom w from from
+tail-none w from h = record { within = h; same = refl }
+
+first-left : (b : ℕ) (l : List ℕ) → (b ≡ 48 → ⊥) → tailOf (b ∷ l) ≡ cond (every isDigit (b ∷ l)) (tail.Digits true) tail.Other
+unfolding tailOf every
+first-left b l n = rw (ne-eqb b 48 n)
+
+module _ {w : List ℕ} {from i : ℕ} (h : TailFrom w from i) where
+  pub tail-end : length w ≤ i → tail.Digits false ≡ tailOf (rest w from)
+  unfolding tailOf every
+  tail-end l = rw (rest-past w i l) at (h .same)
+
+  module _ (l : i < length w) where
+    pub tail-on : getD w i 0 ≡ 48 → TailFrom w from (i + 1)
+    unfolding tailOf every
+    tail-on t = record { within = omega arith; same = rw (rest-in w i l, t) at (h .same) }
+
+    -- at one that isn't 0
+    module _ (n : getD w i 0 ≡ 48 → ⊥) where
+      told : cond (every isDigit (rest w i)) (tail.Digits true) tail.Other ≡ tailOf (rest w from)
+      told = rw (rest-in w i l) (sym (first-left (getD w i 0) (rest w (i + 1)) n) ∙ (rw (rest-in w i l) at (h .same)))
+
+      pub tail-left : true ≡ every isDigit (rest w i) → tail.Digits true ≡ tailOf (rest w from)
+      tail-left t = rw (sym t) at told
+
+      pub tail-other : false ≡ every isDigit (rest w i) → tail.Other ≡ tailOf (rest w from)
+      tail-other t = rw (sym t) at told
 
 -- ---- seven bytes
 pub record SevenSoFar (w : List ℕ) (at : ℕ) (all : Bool) (raw i : ℕ) : Type 0 where

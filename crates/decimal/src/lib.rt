@@ -122,22 +122,58 @@ fn read_few(w: &[u8], from: usize, to: usize) -> Run
     Run { value, end: i }
 }
 
-// What is left of a text that should be digits.
+// Whether four bytes are digits, without a branch for each.
+fn four_digits(w: &[u8], at: usize) -> bool
+    requires { ⌜ at + 4 ≤ length (now w) ⌝ }
+    ensures { λ r. ⌜ r ≡ every isDigit (take 4 (drop at (now (w .entry)))) ⌝ }
+{
+    let mut all = true;
+    let mut i = 0;
+    while i < 4 {
+        all = all & is_digit(w[at + i]);
+        i += 1;
+    }
+    all
+}
+
+// Whether all that is left of a text is digits: told four at a time, and then one at a time.
+fn all_digits(w: &[u8], from: usize) -> bool
+    requires { ⌜ from ≤ length (now w) ⌝ }
+    ensures { λ r. ⌜ r ≡ every isDigit (rest (now (w .entry)) from) ⌝ }
+{
+    let len = w.len();
+    let mut i = from;
+    while 4 <= len - i {
+        if !four_digits(w, i) {
+            return false;
+        }
+        i += 4;
+    }
+    while i < len {
+        if !is_digit(w[i]) {
+            return false;
+        }
+        i += 1;
+    }
+    true
+}
+
+// What is left of a text that should be digits. The first that isn't 0 mostly is the first of all, and of those behind it only whether they are digits counts.
 fn read_tail(w: &[u8], from: usize) -> Tail
+    requires { ⌜ from ≤ length (now w) ⌝ }
     ensures { λ r. ⌜ r ≡ tailOf (rest (now (w .entry)) from) ⌝ }
 {
-    let mut left = false;
     let mut i = from;
     while i < w.len() {
-        let b = w[i];
-        if is_digit(b) {
-            left = left | (b != b'0');
-        } else {
+        if w[i] != b'0' {
+            if all_digits(w, i) {
+                return Tail::Digits(true);
+            }
             return Tail::Other;
         }
         i += 1;
     }
-    Tail::Digits(left)
+    Tail::Digits(false)
 }
 
 // A value times as many tens as make `places` up to UNIT_PLACES.
