@@ -11,7 +11,7 @@ use lib.IntN.{ℤ, pos, negsuc, natAbs}
 use lib.Signed.{ltZ, nonNeg}
 use mir.Syntax.{w64}
 use mir.Val.{Fits, SFits}
-use Rattle.bounds.specs.Bounds.{Bounds, fiveOf, doneRow, putFive, firstAt, boundsAt, widenedAbove, settled, closed}
+use Rattle.bounds.specs.Bounds.{Bounds, firstAt, boundsAt, settled, closed}
 
 pub below-nought : (z : ℤ) → ltZ z (pos 0) ≡ true → nonNeg z ≡ false
 below-nought (pos n) e = absurd (false≢true (sym (le-ltb n 0 (omega arith)) ∙ e))
@@ -33,10 +33,9 @@ module _ (t : List ℤ) (i : ℕ) (f : ℤ) (first : f ≡ firstAt t i) where
       sym (ap (λ x. cond x (settled t i (natAbs f) (boundsAt t i)) t) (below-nought f e))
       ∙ ap (λ z. cond (nonNeg z) (settled t i (natAbs z) (boundsAt t i)) t) first
 
-  pub closes : ltZ f (pos 0) ≡ false → (b : Bounds) → b ≡ boundsAt t i → (t′ : List ℤ) → t′ ≡ widenedAbove t i (natAbs f) b → putFive t′ i (fiveOf (doneRow b)) ≡ closed t i
+  pub closes : ltZ f (pos 0) ≡ false → (b : Bounds) → b ≡ boundsAt t i → settled t i (natAbs f) b ≡ closed t i
   unfolding closed
-  closes e b its t′ wide =
-      ap (λ u. putFive u i (fiveOf (doneRow b))) wide
-      ∙ ap (settled t i (natAbs f)) its
+  closes e b its =
+      ap (settled t i (natAbs f)) its
       ∙ sym (ap (λ x. cond x (settled t i (natAbs f) (boundsAt t i)) t) (not-below f e))
       ∙ ap (λ z. cond (nonNeg z) (settled t i (natAbs z) (boundsAt t i)) t) first

@@ -1,7 +1,7 @@
 // Boxes, and rows of them in a lent table, which is filled while the nodes of a store are met.
 ghost use mathlib.Core.Path.{_≡_};
 ghost use Prim.Native.Nat.{_<_};
-ghost use Rattle.bounds.specs.Bounds.{lower, higher, box, five, fiveOf, doneRow, putFive, boxCell, opened, widened, widenedAbove, closed, cleared, Refuses};
+ghost use Rattle.bounds.specs.Bounds.{lower, higher, box, five, fiveOf, doneRow, putFive, boxCell, opened, widened, widenedAbove, settled, closed, cleared, Refuses};
 
 // How many numbers a row has: 1 or 0, and the four sides.
 pub const BOX_WIDTH: usize = 5;
@@ -16,9 +16,9 @@ const BOTTOM: usize = 3;
 const TOP: usize = 4;
 
 // The sides of a box around nothing: farther in than any number's.
-const EDGE: i64 = 1000000000000000000;
+pub const EDGE: i64 = 1000000000000000000;
 
-const NO_EDGE: i64 = -1000000000000000000;
+pub const NO_EDGE: i64 = -1000000000000000000;
 
 // What the boxes answer: a refusal's number and place, or zeros.
 pub struct BoxAnswer {
@@ -26,13 +26,13 @@ pub struct BoxAnswer {
     pub place: usize,
 }
 
-fn lower_of(a: i64, b: i64) -> i64
+pub fn lower_of(a: i64, b: i64) -> i64
     ensures { λ r. ⌜ r ≡ lower a b ⌝ }
 {
     if b < a { b } else { a }
 }
 
-fn higher_of(a: i64, b: i64) -> i64
+pub fn higher_of(a: i64, b: i64) -> i64
     ensures { λ r. ⌜ r ≡ higher a b ⌝ }
 {
     if a < b { b } else { a }
@@ -111,7 +111,23 @@ fn widen_above(
     }
 }
 
-// An open node has ended: its box is known, and widens that of its parent.
+// A node below the row `parent` has ended: its box is known, and widens that of its parent.
+pub fn settle(
+    table: &mut [i64],
+    row: usize,
+    parent: usize,
+    left: i64,
+    right: i64,
+    bottom: i64,
+    top: i64,
+)
+    ensures { λ _. ⌜ now (table .exit) ≡ settled (now (table .entry)) row parent (box left right bottom top) ⌝ }
+{
+    widen_above(table, row, parent, left, right, bottom, top);
+    put_done(table, row, left, right, bottom, top);
+}
+
+// An open node has ended: its parent and the box around what was met under it stand in its row.
 pub fn close(table: &mut [i64], row: usize)
     ensures { λ _. ⌜ now (table .exit) ≡ closed (now (table .entry)) row ⌝ }
 {
@@ -124,8 +140,7 @@ pub fn close(table: &mut [i64], row: usize)
     let right = cell_at(table, row, RIGHT);
     let bottom = cell_at(table, row, BOTTOM);
     let top = cell_at(table, row, TOP);
-    widen_above(table, row, parent, left, right, bottom, top);
-    put_done(table, row, left, right, bottom, top);
+    settle(table, row, parent, left, right, bottom, top);
 }
 
 // Zeroes the table from the place `from` on.

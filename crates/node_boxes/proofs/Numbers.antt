@@ -1,14 +1,14 @@
 -- Laws of a node's numbers, one after the other.
 -- Assumes nothing.
-use mathlib.Core.Path.{_≡_, ap, _∙_}
-use mathlib.Core.Bool.{Bool, true, false, _&&_}
-use mathlib.Core.List.{List}
-use Prim.Native.Nat.{ℕ, suc, _+_, _-_, _*_, _≤_, _<_}
+use mathlib.Core.Path.{_≡_, refl, sym, ap, ap₂, _∙_}
+use mathlib.Core.Bool.{Bool, true, false, and-true}
+use mathlib.Core.List.{List, [], _∷_}
+use Prim.Native.Nat.{ℕ, zero, suc, _+_, _-_, _*_, _≤_, _<_}
 use native.Mathlib.Omega.{arith}
 use native.Mathlib.Nat.{suc-mul}
 use borrow.Author.Tests.{le-leb, lt-leb}
-use lib.IntN.{ℤ}
-use lib.ListN.{length}
+use lib.IntN.{ℤ, pos}
+use lib.ListN.{length, getD, set}
 use Rattle.scan.specs.Front.{part}
 use Rattle.store.specs.Rows.{spanStartAt, spanLengthAt}
 use Rattle.shape.specs.Numbers.{isNumberAt}
@@ -16,11 +16,9 @@ use Rattle.shape.proofs.Numbers.{text-all}
 use Rattle.rounding.specs.declared.Reckoned.{Reckoned}
 use Rattle.rounding.specs.declared.Reckoned.the-variants.{NoNumber}
 use Rattle.decimal.specs.Reckon.{reckoned}
-use Rattle.bounds.specs.declared.BoxAnswer.{BoxAnswer}
-use Rattle.bounds.specs.Bounds.{widened}
+use Rattle.bounds.specs.Bounds.{Bounds, lower, higher}
 use Rattle.node_boxes.specs.declared.Seen.{Seen}
-use Rattle.node_boxes.specs.Boxes.{offenceOf, offenceAt, orFirst}
-use Rattle.node_boxes.specs.Turns.{isNumeral, reckonedAt, areGood, seen, offenceIn, seenOne, seenOn, cornerAt, widenedOn}
+use Rattle.node_boxes.specs.Turns.{reckonedAt, areGood, seen, offenceIn, seenNext, seenUpTo, withOthers, seenOne, seenOn, boundsIn, widenedAxis, axisNext, sidedUpTo, aroundOn}
 
 -- ---- what a number row comes to: its span lies in the text, or not
 module _ (text numbers : List ℕ) (i start len : ℕ) (s : start ≡ spanStartAt numbers i) (e : len ≡ spanLengthAt numbers i) where
@@ -61,27 +59,53 @@ module _ (text numbers : List ℕ) (w at n : ℕ) where
   unfolding seenOn
   seen-on s h = let z : n ≡ suc (n - 1) = omega arith in let y : suc (n - 1) - 1 ≡ n - 1 = omega arith in rw (z, y)
 
-  pub widened-on : (i : ℕ) (t : List ℤ) → 0 < n → widenedOn text numbers i w (at + w) (n - 1) (widened t i (cornerAt text numbers at)) ≡ widenedOn text numbers i w at n t
-  unfolding widenedOn
-  widened-on i t h = let z : n ≡ suc (n - 1) = omega arith in let y : suc (n - 1) - 1 ≡ n - 1 = omega arith in rw (z, y)
+  pub around-on : (b : Bounds) → 0 < n → aroundOn text numbers w (at + w) (n - 1) (sidedUpTo text numbers at 2 b) ≡ aroundOn text numbers w at n b
+  unfolding aroundOn
+  around-on b h = let z : n ≡ suc (n - 1) = omega arith in let y : suc (n - 1) - 1 ≡ n - 1 = omega arith in rw (z, y)
 
   pub seen-end : (s : Seen) → n ≤ 0 → s ≡ seenOn text numbers w at n s
   unfolding seenOn
   seen-end s h = let z : n ≡ 0 = omega arith in rw z
 
-  pub widened-end : (i : ℕ) (t : List ℤ) → n ≤ 0 → t ≡ widenedOn text numbers i w at n t
-  unfolding widenedOn
-  widened-end i t h = let z : n ≡ 0 = omega arith in rw z
+  pub around-end : (b : Bounds) → n ≤ 0 → b ≡ aroundOn text numbers w at n b
+  unfolding aroundOn
+  around-end b h = let z : n ≡ 0 = omega arith in rw z
 
 -- those from the first on and the others lie below the bound
 pub one-more : (n w : ℕ) → 0 < n → n * w ≡ (n - 1) * w + w
 one-more n w h = let z : n ≡ suc (n - 1) = omega arith in ap (λ m. m * w) z ∙ suc-mul (n - 1) w
 
--- a coordinate: whether its X, its Y and its other numbers are some, and what its X and then its Y offend by
-pub seen-one : (text numbers : List ℕ) (w at : ℕ) (s : Seen) {x y others : Bool} {ox oy : ℕ} {a b : BoxAnswer} →
-    x ≡ isNumeral (reckonedAt text numbers at) → y ≡ isNumeral (reckonedAt text numbers (at + 1)) → others ≡ areGood text numbers (at + 2) (w - 2) →
-    ox ≡ offenceOf (reckonedAt text numbers at) → oy ≡ offenceOf (reckonedAt text numbers (at + 1)) →
-    a ≡ orFirst (offenceIn s) (offenceAt numbers at ox) → b ≡ orFirst a (offenceAt numbers (at + 1) oy) →
-    seen (((s .good && x) && y) && others) b ≡ seenOne text numbers w at s
+-- a coordinate: its X and its Y, and whether its other numbers are some
+pub seen-one : (text numbers : List ℕ) (w at : ℕ) (s : Seen) {u : Seen} {others : Bool} → others ≡ areGood text numbers (at + 2) (w - 2) → u ≡ seenUpTo text numbers at 2 s → withOthers others u ≡ seenOne text numbers w at s
 unfolding seenOne
-seen-one text numbers w at s ex ey eo eox eoy ea eb = rw (eb, ea, eox, eoy, ex, ey, eo)
+seen-one text numbers w at s e f = ap₂ withOthers e f
+
+-- of two numbers there are no others
+pub seen-two : (text numbers : List ℕ) (w at : ℕ) (s : Seen) {u : Seen} → w ≤ 2 → u ≡ seenUpTo text numbers at 2 s → u ≡ seenOne text numbers w at s
+unfolding seenOne areGood
+seen-two text numbers w at s {u} h f =
+    let z : w - 2 ≡ 0 = omega arith in
+    rw z (ap (λ (g : Bool). seen g (offenceIn u)) (sym (and-true (u .good))) ∙ ap (withOthers true) f)
+
+-- ---- X and Y of a coordinate, by axis
+module _ (text numbers : List ℕ) (at k : ℕ) where
+  pub seen-next : (s : Seen) {r : Seen} → r ≡ seenNext numbers (at + k) (reckonedAt text numbers (at + k)) (seenUpTo text numbers at k s) → r ≡ seenUpTo text numbers at (k + 1) s
+  unfolding seenUpTo
+  seen-next s e = let z : k + 1 ≡ suc k = omega arith in rw z e
+
+  pub sided-next : (b : Bounds) {c : Bounds} → c ≡ axisNext k (reckonedAt text numbers (at + k)) (sidedUpTo text numbers at k b) → c ≡ sidedUpTo text numbers at (k + 1) b
+  unfolding sidedUpTo
+  sided-next b e = let z : k + 1 ≡ suc k = omega arith in rw z e
+
+-- the lows and the highs of both axes, one of which is widened
+pub axis-set : (lows highs : List ℤ) (axis : ℕ) (low high : ℤ) → length lows ≡ 2 → length highs ≡ 2 → axis < 2 →
+    boundsIn (set lows axis (lower (getD lows axis (pos 0)) low)) (set highs axis (higher (getD highs axis (pos 0)) high)) ≡ widenedAxis axis low high (boundsIn lows highs)
+axis-set [] highs axis low high l h a = absurd (omega arith)
+axis-set (p ∷ []) highs axis low high l h a = absurd (omega arith)
+axis-set (p ∷ q ∷ r ∷ ls) highs axis low high l h a = absurd (omega arith)
+axis-set (p ∷ q ∷ []) [] axis low high l h a = absurd (omega arith)
+axis-set (p ∷ q ∷ []) (x ∷ []) axis low high l h a = absurd (omega arith)
+axis-set (p ∷ q ∷ []) (x ∷ y ∷ z ∷ hs) axis low high l h a = absurd (omega arith)
+axis-set (p ∷ q ∷ []) (x ∷ y ∷ []) zero low high l h a = refl
+axis-set (p ∷ q ∷ []) (x ∷ y ∷ []) (suc zero) low high l h a = refl
+axis-set (p ∷ q ∷ []) (x ∷ y ∷ []) (suc (suc k)) low high l h a = absurd (omega arith)

@@ -151,3 +151,15 @@ close-at {p} {before} {after} a b behind t =
     ∙ ap (λ v. putFive v (length before) (fiveOf (doneRow b))) (a .wide (boxRow (pos p) b ∷ behind) t b)
     ∙ ap (λ n. putFive (over (after b ++ (boxRow (pos p) b ∷ behind)) t) n (fiveOf (doneRow b))) (sym (a .same b))
     ∙ put-at (after b) (boxRow (pos p) b) (doneRow b) behind t
+
+-- a node that has ended as soon as it was met: its row is put behind the others
+pub settle-at : {p : ℕ} {before : List BoxRow} {after : Bounds → List BoxRow} → Above p before after → (b : Bounds) (t : List ℤ) → boxWidth ≤ length t
+    → settled (over before t) (length before) p b ≡ over (after b ++ (doneRow b ∷ [])) (drop boxWidth t)
+settle-at {p} {before} {after} a b t h = go t (front-row t h)
+  where
+    go : (t : List ℤ) → Fronted t → settled (over before t) (length before) p b ≡ over (after b ++ (doneRow b ∷ [])) (drop boxWidth t)
+    go u (fronted r t) =
+        ap (λ v. settled v (length before) p b) (sym (over-append before (r ∷ []) t))
+        ∙ ap (λ v. putFive v (length before) (fiveOf (doneRow b))) (a .wide (r ∷ []) t b)
+        ∙ ap (λ n. putFive (over (after b ++ (r ∷ [])) t) n (fiveOf (doneRow b))) (sym (a .same b))
+        ∙ put-at (after b) r (doneRow b) [] t

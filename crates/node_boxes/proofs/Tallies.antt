@@ -1,7 +1,7 @@
 -- Whether all numbers are some, and the first offence, as they are told on the way through a tree: those of its coordinates, in order.
 -- Assumes nothing.
 use mathlib.Core.Path.{_≡_, refl, ap, ap₂, sym, _∙_, subst}
-use mathlib.Core.Bool.{Bool, true, false, cond, _&&_}
+use mathlib.Core.Bool.{Bool, true, false, cond, _&&_, and-true, and-false, and-assoc}
 use mathlib.Core.List.{List, [], _∷_, _++_, flatMap, append-nil, append-assoc}
 use Prim.Native.Nat.{ℕ, zero, suc, _+_, _-_, _*_, _≤_, _<_}
 use native.Mathlib.Omega.{arith}
@@ -18,6 +18,7 @@ use Rattle.nodes.specs.Nodes.{above, visitOf, frameOf, onward}
 use Rattle.shape.specs.Visits.{Walker, walkEach, walkLeaf, walkParts, walkNest, walkPoint, walkLine, walkPolygon, walkNode, walkNothing, walkTree}
 use Rattle.shape.specs.Numbers.{textAt, isNumberAt}
 use Rattle.number.specs.Lexeme.{isNamed, isLexeme}
+use Rattle.rounding.specs.declared.Reckoned.{Reckoned}
 use Rattle.rounding.specs.declared.Reckoned.the-variants.{Sides, Named, Beyond, NoNumber}
 use Rattle.decimal.specs.Reckon.{sidesOf, reckoned}
 use Rattle.scan.specs.Bytes.{isSign}
@@ -28,16 +29,8 @@ use Rattle.bounds.specs.declared.BoxAnswer.{BoxAnswer}
 use Rattle.bounds.specs.Bounds.{boxAnswer}
 use Rattle.node_boxes.specs.declared.Seen.{Seen}
 use Rattle.node_boxes.specs.Boxes.{offenceOf, fine, offenceAt, orFirst, firstOffence, pointCoords, lineCoords, polygonCoords, nodeCoords, noCoords, coords}
-use Rattle.node_boxes.specs.Turns.{isNumeral, reckonedAt, areGood, seen, offenceIn, unseen, seenOne, seenOn, own, goodBy, offenceBy}
+use Rattle.node_boxes.specs.Turns.{reckonedAt, areGood, seen, offenceIn, unseen, seenNext, seenUpTo, withOthers, seenOne, seenOn, own, goodBy, offenceBy}
 use Rattle.node_boxes.proofs.Trees.{wide-two, Reads, reads-right}
-
-and-assoc : (a b c : Bool) → ((a && b) && c) ≡ (a && (b && c))
-and-assoc true b c = refl
-and-assoc false b c = refl
-
-pub and-true : (a : Bool) → (a && true) ≡ a
-and-true true = refl
-and-true false = refl
 
 pub first-assoc : (a b c : BoxAnswer) → orFirst (orFirst a b) c ≡ orFirst a (orFirst b c)
 first-assoc a b c = go (eqb (a .number) 0) refl
@@ -47,6 +40,12 @@ first-assoc a b c = go (eqb (a .number) 0) refl
     go false e = rw (e, e)
 
 -- a number's text comes to a numeral, and no other bytes do
+abbrev isNumeral : Reckoned → Bool
+isNumeral (Sides low high) = true
+isNumeral Named = true
+isNumeral Beyond = true
+isNumeral NoNumber = false
+
 numeral-reckoned : (l : List ℕ) → isNumeral (reckoned l) ≡ isLexeme l
 unfolding reckoned sidesOf
 numeral-reckoned l = go (isLexeme l) (isNamed (afterOne isSign l)) (isFar (written l)) (isLarge (written l))
@@ -204,10 +203,33 @@ module _ (text numbers : List ℕ) where
       let y : at + 2 ≡ at + 1 + 1 = omega arith in
       rw (z, y) (and-assoc (g && isNumberAt text numbers at) (isNumberAt text numbers (at + 1)) (areGood text numbers (at + 1 + 1) w) ∙ and-assoc g (isNumberAt text numbers at) (isNumberAt text numbers (at + 1) && areGood text numbers (at + 1 + 1) w))
 
-  seen-one : (d at : ℕ) (c : Coord) (s : Seen) → length c ≡ width d → seenOne text numbers (width d) at s ≡ both s (one c at)
+  -- one X or Y more
+  abbrev numberSeen : ℕ → Reckoned → Seen
+  numberSeen i x = seen (isNumeral x) (offenceAt numbers i (offenceOf x))
+
+  number-clean : (i : ℕ) (x : Reckoned) → Clean (numberSeen i x)
+  unfolding Clean both
+  number-clean i x = ap₂ seen (and-true (isNumeral x)) (offence-clean numbers i (offenceOf x))
+
+  next-both : (i : ℕ) (x : Reckoned) (s : Seen) → Clean s → seenNext numbers i x s ≡ both s (numberSeen i x)
+  unfolding Clean both
+  next-both i (Sides low high) s c = sym c
+  next-both i Named s c = ap (λ g. seen g (orFirst (offenceIn s) (boxAnswer 30 (spanStartAt numbers i)))) (sym (and-true (s .good)))
+  next-both i Beyond s c = ap (λ g. seen g (orFirst (offenceIn s) (boxAnswer 31 (spanStartAt numbers i)))) (sym (and-true (s .good)))
+  next-both i NoNumber s c = ap₂ seen (sym (and-false (s .good))) (sym (ap offenceIn c))
+
+  up-to-both : (at : ℕ) (s : Seen) → Clean s → seenUpTo text numbers at 2 s ≡ both (both s (numberSeen at (reckonedAt text numbers at))) (numberSeen (at + 1) (reckonedAt text numbers (at + 1)))
+  unfolding seenUpTo
+  up-to-both at s c =
+      let z : at + 0 ≡ at = omega arith in
+      let x : Seen = numberSeen at (reckonedAt text numbers at) in
+      rw z (ap (seenNext numbers (at + 1) (reckonedAt text numbers (at + 1))) (next-both at (reckonedAt text numbers at) s c) ∙ next-both (at + 1) (reckonedAt text numbers (at + 1)) (both s x) (clean-both s x (number-clean at (reckonedAt text numbers at))))
+
+  seen-one : (d at : ℕ) (c : Coord) (s : Seen) → Clean s → length c ≡ width d → seenOne text numbers (width d) at s ≡ both s (one c at)
   unfolding seenOne both
-  seen-one d at c s e =
-      ap₂ seen
+  seen-one d at c s k e =
+      ap (withOthers (areGood text numbers (at + 2) (width d - 2))) (up-to-both at s k)
+      ∙ ap₂ seen
       (ap₂ (λ x y. ((s .good && x) && y) && areGood text numbers (at + 2) (width d - 2)) (numeral-at at) (numeral-at (at + 1))
       ∙ good-one (width d) at (s .good) (wide-two d)
       ∙ ap (λ n. s .good && areGood text numbers at n) (sym e))
@@ -218,7 +240,7 @@ module _ (text numbers : List ℕ) where
   unfolding seenOn seenAll All Clean
   on-all d at [] s q c = sym c
   on-all d at (x ∷ xs) s q c =
-      ap (seenOn text numbers (width d) (at + width d) (length xs)) (seen-one d at x s (q .0))
+      ap (seenOn text numbers (width d) (at + width d) (length xs)) (seen-one d at x s c (q .0))
       ∙ on-all d (at + width d) xs (both s (one x at)) (q .1) (clean-both s (one x at) (one-clean x at))
       ∙ ap (λ n. both (both s (one x at)) (seenAll xs (at + n))) (sym (q .0))
       ∙ both-assoc s (one x at) (seenAll xs (at + length x))

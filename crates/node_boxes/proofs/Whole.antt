@@ -1,7 +1,7 @@
 -- What `boxes` answers and leaves, from what filling the table on the way through the rows comes to.
 -- Assumes nothing.
 use mathlib.Core.Path.{_≡_, refl, ap, ap₂, sym, _∙_, subst}
-use mathlib.Core.Bool.{Bool, true, false, false≢true, cond, _&&_}
+use mathlib.Core.Bool.{Bool, true, false, false≢true, cond, _&&_, and-true}
 use mathlib.Core.Option.{Option, none, some}
 use mathlib.Core.List.{List, [], _∷_, _++_, map, flatMap}
 use Prim.Native.Nat.{ℕ, zero, suc, _+_, _-_, _*_, _/_, _≤_, _<_}
@@ -13,7 +13,7 @@ use native.Mathlib.Decide.{decLt}
 use lib.Seq.{getD-append-seam}
 use lib.ListN.{length, take, drop, getD, length-drop, List·getD-append}
 use Rattle.limits.specs.Limits.{depthLimit}
-use Rattle.lists.specs.Lists.{every}
+use Rattle.lists.specs.Lists.{every, All}
 use Rattle.lists.proofs.Cases.{and-both}
 use Rattle.store.proofs.Cells.{firsts-length}
 use Rattle.store.proofs.Rows.{rows-length}
@@ -38,9 +38,11 @@ use Rattle.bounds.specs.Bounds.{BoxRow, boxWidth, boxRoom, fiveOf, zeros, padde
 use Rattle.tree.specs.Tree.{Coord}
 use Rattle.node_boxes.specs.Boxes.{xText, yText, offenceOf, offenceAt, orFirst, firstOffence, fine, coords, boxes, Outcome, boxed, refused, unlessOffence, boxesIf, boxesOf, answerOf, usedBoxes, FillsTable}
 use Rattle.node_boxes.specs.Turns.{reckonedAt, areGood, goodBy, offenceBy, tableBy, verdict, FilledBy}
+use Rattle.node_boxes.specs.Holds.{Placed}
 use Rattle.node_boxes.proofs.Rows.{over, length-over}
 use Rattle.node_boxes.proofs.Trees.{Reads, as-many, root-fills}
-use Rattle.node_boxes.proofs.Tallies.{and-true, good-append, first-assoc, offence-clean, root-good, root-offence}
+use Rattle.node_boxes.proofs.Tallies.{good-append, first-assoc, offence-clean, root-good, root-offence}
+use Rattle.node_boxes.proofs.Faults.{Numeric, tree-numeric, Says, no-fault, a-fault, says}
 
 -- ---- refusals
 refuses-table : (number place : ℕ) (t t′ : List ℤ) (a : BoxAnswer) → Refuses number place t a t′ → FillsTable (refused number place) t a t′
@@ -128,6 +130,14 @@ no-offence numbers j (c ∷ cs) =
 is-fine : (a : BoxAnswer) → orFirst a fine ≡ a → a .number ≡ 0 → a ≡ fine
 is-fine a c e = sym c ∙ rw (eq-eqb (a .number) 0 e)
 
+-- then each X and Y has its sides
+placed-if : (numbers : List ℕ) (cs : List Coord) → All Numeric cs → firstOffence numbers 0 cs .number ≡ 0 → All Placed cs
+placed-if numbers cs h e = go (firstOffence numbers 0 cs) (says numbers cs h) e
+  where
+    go : (a : BoxAnswer) → Says numbers cs a → a .number ≡ 0 → All Placed cs
+    go _ (no-fault k p) e = p
+    go _ (a-fault f n) e = absurd (n e)
+
 -- ---- rows of a table
 taken : (rs : List BoxRow) (t : List ℤ) → take (length rs * boxWidth) (over rs t) ≡ flatMap fiveOf rs
 unfolding flatMap
@@ -148,7 +158,7 @@ cleared-rows rs t n m e l = rw (← e, ← l, flat-length rs, taken rs t)
 data Came (text nodes numbers : List ℕ) (t : List ℤ) (a : BoxAnswer) (t₁ : List ℤ) : Type 0 where
   ill : boxesOf text nodes numbers (boxRoom t) ≡ refused illFormedStore 0 → a ≡ boxAnswer illFormedStore 0 → Came text nodes numbers t a t₁
   good : (x : Tree depthLimit) → boxesOf text nodes numbers (boxRoom t) ≡ unlessOffence (firstOffence numbers 0 (coords depthLimit x)) (boxes depthLimit x) → a ≡ firstOffence numbers 0 (coords depthLimit x)
-      → t₁ ≡ over (boxes depthLimit x) (drop (nodeRoom nodes * boxWidth) t) → length (rows depthLimit x) ≡ nodeRoom nodes → Came text nodes numbers t a t₁
+      → (firstOffence numbers 0 (coords depthLimit x) .number ≡ 0 → t₁ ≡ over (boxes depthLimit x) (drop (nodeRoom nodes * boxWidth) t)) → length (rows depthLimit x) ≡ nodeRoom nodes → Came text nodes numbers t a t₁
 
 module _ (text nodes numbers : List ℕ) (t : List ℤ) (whole : areWhole nodes numbers ≡ true) (room : nodeRoom nodes ≤ boxRoom t) (a : BoxAnswer) (t₁ : List ℤ) where
   abbrev found : Option (Tree depthLimit)
@@ -192,11 +202,12 @@ module _ (text nodes numbers : List ℕ) (t : List ℤ) (whole : areWhole nodes 
     by-numbers false e filled = ill (no-tree (tree-is false (some x) e f)) (filled .0 ∙ ap (λ g. verdict g (offenceBy text numbers fine (walkRoot x))) (told-good ∙ e))
     by-numbers true e filled =
         let reads : Reads text numbers 0 (texts depthLimit x) = subst (Reads text numbers 0) (its .its-texts) (reads-all text numbers e) in
+        let numeric : All Numeric (coords depthLimit x) = tree-numeric depthLimit x (store-tree text nodes numbers x (tree-is true (some x) e f) .good) in
         let fits : length (rows depthLimit x) * boxWidth ≤ length t = let n = row-count in omega (arith, n, room) in
         good x
         (tree-boxes (tree-is true (some x) e f))
         (filled .0 ∙ ap₂ verdict (told-good ∙ e) (root-offence text numbers depthLimit x (its .shape) reads))
-        (filled .1 ∙ root-fills text numbers depthLimit x (its .shape) reads t fits ∙ ap (λ n. over (boxes depthLimit x) (drop (n * boxWidth) t)) row-count)
+        (λ z. filled .1 ∙ root-fills text numbers depthLimit x (its .shape) (placed-if numbers (coords depthLimit x) numeric z) reads t fits ∙ ap (λ n. over (boxes depthLimit x) (drop (n * boxWidth) t)) row-count)
         row-count
 
   came : FilledBy text numbers t a t₁ (wholeWalk nodes (numberRoom numbers)) → Came text nodes numbers t a t₁
@@ -229,7 +240,7 @@ module _ (text nodes numbers : List ℕ) (t : List ℤ) (whole : areWhole nodes 
           subst (λ o. FillsTable o t a t′) (sym is)
           (record {
             answer = is-fine a (rw e (no-offence numbers 0 (coords depthLimit x))) fine?;
-            table = clears ∙ ap (λ u. cleared u (nodeRoom nodes * boxWidth)) table ∙ cleared-rows (boxes depthLimit x) (drop (nodeRoom nodes * boxWidth) t) (nodeRoom nodes) (length t) many long;
+            table = clears ∙ ap (λ u. cleared u (nodeRoom nodes * boxWidth)) (table (sym (ap (λ (b : BoxAnswer). b .number) e) ∙ fine?)) ∙ cleared-rows (boxes depthLimit x) (drop (nodeRoom nodes * boxWidth) t) (nodeRoom nodes) (length t) many long;
           })
 
 -- ---- as the code asks for it

@@ -25,9 +25,9 @@ use Rattle.rounding.specs.declared.Reckoned.the-variants.{Sides, Named, Beyond,
 use Rattle.decimal.specs.Decimal.{leading, readOn, written}
 use Rattle.decimal.specs.Units.{wholeUnits, isLeft, low, high, isLarge}
 use Rattle.decimal.specs.Reckon.{sidesOf, reckoned}
-use Rattle.bounds.specs.Bounds.{BoxRow, box, boxRow, noBox, merge, doneRow, putFive, boxCell, opened, widened, closed, zeros, padded, boxAnswer}
+use Rattle.bounds.specs.Bounds.{BoxRow, box, boxRow, noBox, merge, nothing, doneRow, putFive, boxCell, opened, widened, closed, zeros, padded, boxAnswer}
 use Rattle.node_boxes.specs.Boxes.{xText, yText, lowest, highest, boxAround, nestBoxes, offenceOf, offenceAt, orFirst, firstOffence, fine, Outcome, boxed, refused, boxesOf, answerOf, usedBoxes}
-use Rattle.node_boxes.specs.Turns.{isNumeral, reckonedAt, areGood, seen, offenceIn, unseen, seenOne, seenOn, cornerAt, widenedOn, own, widenedBy, goodBy, offenceBy, entered, tableBy, verdict}
+use Rattle.node_boxes.specs.Turns.{reckonedAt, areGood, seen, offenceIn, unseen, foundOn, seenNext, seenUpTo, withOthers, seenOne, seenOn, boundsIn, widenedAxis, axisNext, sidedUpTo, aroundOn, own, ownBox, endedLeaf, goodBy, offenceBy, entered, tableBy, verdict}
 
 -- numbers, two words, what is too large, and what is none
 text : List ℕ
@@ -228,7 +228,7 @@ met : List Met
 met = Node (visited 0 0 above 4 0 2) ∷ Node (visited 1 0 (frame 0 4 0 0 2 0) 1 0 1) ∷ Node (visited 2 2 (frame 0 4 0 0 2 1) 1 0 1) ∷ End 0 3 ∷ Done ∷ []
 
 turns : ℕ
-unfolding visited met merge doneRow putFive boxCell opened widened closed reckonedAt areGood seenOne seenOn widenedOn own widenedBy goodBy offenceBy entered tableBy
+unfolding visited met merge doneRow putFive boxCell opened widened closed reckonedAt areGood seenUpTo seenOne seenOn sidedUpTo aroundOn own goodBy offenceBy entered tableBy
 turns = 0
 
 -- a number row: a number, each offence, what is none, a span that ends past the text, and beyond the rows
@@ -238,11 +238,23 @@ by-row :
 unfolding all turns
 by-row = refl
 
-numerals :
-    (isNumeral (Sides (pos 0) (pos 1)) ∷ isNumeral Named ∷ isNumeral Beyond ∷ isNumeral NoNumber ∷ [] ≡ true ∷ true ∷ true ∷ false ∷ [])
-    × (areGood text (n1 ++ inf ++ bad) 0 2 ∷ areGood text (n1 ++ inf ++ bad) 1 2 ∷ areGood text (n1 ++ inf ++ bad) 3 0 ∷ [] ≡ true ∷ false ∷ true ∷ [])
+good : areGood text (n1 ++ inf ++ bad) 0 2 ∷ areGood text (n1 ++ inf ++ bad) 1 2 ∷ areGood text (n1 ++ inf ++ bad) 3 0 ∷ [] ≡ true ∷ false ∷ true ∷ []
 unfolding all turns
-numerals = (refl, refl)
+good = refl
+
+-- one number more, by what it comes to: an offence counts where none did before, and what is no number spoils all
+by-number :
+    (seenNext (n1 ++ inf) 1 (Sides (pos 0) (pos 1)) (seen true (boxAnswer 31 5)) ≡ seen true (boxAnswer 31 5)) × (seenNext (n1 ++ inf) 1 Named unseen ≡ seen true (boxAnswer 30 23)) × (seenNext (n1 ++ inf) 1 Beyond unseen ≡ seen true (boxAnswer 31 23))
+    × (seenNext (n1 ++ inf) 1 Named (seen false (boxAnswer 31 5)) ≡ seen false (boxAnswer 31 5)) × (seenNext (n1 ++ inf) 1 NoNumber (seen true (boxAnswer 31 5)) ≡ seen false (boxAnswer 31 5))
+    × (foundOn (n1 ++ inf) 0 31 (seen false fine) ≡ seen false (boxAnswer 31 0)) × (withOthers false (seen true (boxAnswer 30 7)) ≡ seen false (boxAnswer 30 7)) × (withOthers true (seen false fine) ≡ seen false fine)
+unfolding all turns
+by-number = (refl, refl, refl, refl, refl, refl, refl, refl)
+
+-- X alone, and then Y too
+by-axis :
+    (seenUpTo text (inf ++ huge) 0 0 unseen ≡ unseen) × (seenUpTo text (n1 ++ huge) 0 1 unseen ≡ unseen) × (seenUpTo text (n1 ++ huge) 0 2 unseen ≡ seen true (boxAnswer 31 31)) × (seenUpTo text (inf ++ huge) 0 2 unseen ≡ seen true (boxAnswer 30 23))
+unfolding all turns
+by-axis = (refl, refl, refl, refl)
 
 -- one coordinate more: good, with an offence, after one, and with a Z that is none
 by-coordinate :
@@ -252,10 +264,30 @@ by-coordinate :
 unfolding all turns
 by-coordinate = (refl, refl, refl, refl, refl, refl, refl, refl, refl)
 
--- a coordinate's box: X and Y of an XYM one
-corner : cornerAt text (n1 ++ tiny ++ m3) 0 ≡ box (pos 10000000) (pos 10000000) (pos 0) (pos 1)
+-- ---- the box around coordinates
+-- lows and highs by axis; one axis is widened, and the other stays
+axes :
+    (boundsIn (pos 1 ∷ pos 3 ∷ []) (pos 2 ∷ pos 4 ∷ []) ≡ box (pos 1) (pos 2) (pos 3) (pos 4))
+    × (widenedAxis 0 (neg 7) (pos 7) (box (pos 1) (pos 2) (pos 3) (pos 4)) ≡ box (neg 7) (pos 7) (pos 3) (pos 4)) × (widenedAxis 1 (neg 7) (pos 7) (box (pos 1) (pos 2) (pos 3) (pos 4)) ≡ box (pos 1) (pos 2) (neg 7) (pos 7))
+    × (widenedAxis 0 (pos 2) (pos 1) (box (pos 1) (pos 2) (pos 3) (pos 4)) ≡ box (pos 1) (pos 2) (pos 3) (pos 4))
+    × (axisNext 1 (Sides (pos 0) (pos 9)) (box (pos 1) (pos 2) (pos 3) (pos 4)) ≡ box (pos 1) (pos 2) (pos 0) (pos 9)) × (axisNext 0 Named (box (pos 1) (pos 2) (pos 3) (pos 4)) ≡ box (pos 1) (pos 2) (pos 3) (pos 4))
+    × (axisNext 0 Beyond (box (pos 1) (pos 2) (pos 3) (pos 4)) ≡ box (pos 1) (pos 2) (pos 3) (pos 4)) × (axisNext 0 NoNumber (box (pos 1) (pos 2) (pos 3) (pos 4)) ≡ box (pos 1) (pos 2) (pos 3) (pos 4))
+unfolding all
+axes = (refl, refl, refl, refl, refl, refl, refl, refl)
+
+-- X alone and then Y too, of an XYM coordinate; of two such coordinates; of a node
+corners :
+    (sidedUpTo text (n1 ++ tiny ++ m3) 0 1 nothing ≡ box (pos 10000000) (pos 10000000) (pos 1000000000000000000) (neg 1000000000000000000)) × (sidedUpTo text (n1 ++ tiny ++ m3) 0 2 nothing ≡ box (pos 10000000) (pos 10000000) (pos 0) (pos 1))
+    × (aroundOn text (n1 ++ tiny ++ m3 ++ m3 ++ n2 ++ n1) 3 0 2 nothing ≡ box (neg 30000000) (pos 10000000) (pos 0) (pos 20000000)) × (aroundOn text [] 3 0 0 nothing ≡ nothing)
+    × (ownBox text (n1 ++ tiny ++ m3 ++ m3 ++ n2 ++ n1) (visited 0 0 above 2 2 2) ≡ box (neg 30000000) (pos 10000000) (pos 0) (pos 20000000))
 unfolding all turns
-corner = refl
+corners = (refl, refl, refl, refl, refl)
+
+-- a node without child rows has ended, and any other stays open
+ended :
+    (endedLeaf (visited 0 0 above 7 0 0) (pos 0 ∷ pos 3 ∷ pos 4 ∷ pos 5 ∷ pos 6 ∷ []) ≡ pos 1 ∷ pos 3 ∷ pos 4 ∷ pos 5 ∷ pos 6 ∷ []) × (endedLeaf (visited 0 0 above 7 0 1) (pos 0 ∷ pos 3 ∷ pos 4 ∷ pos 5 ∷ pos 6 ∷ []) ≡ pos 0 ∷ pos 3 ∷ pos 4 ∷ pos 5 ∷ pos 6 ∷ [])
+unfolding all turns
+ended = (refl, refl)
 
 -- a node's own coordinates: a line's two, each of three numbers; a collection has none itself
 by-node : (own text (n1 ++ n2 ++ inf ++ n1 ++ nan ++ n2) (visited 0 0 above 2 1 2) ≡ seen true (boxAnswer 30 27)) × (own text (inf ++ n1) (visited 0 0 above 7 0 1) ≡ unseen) × (own text (n1 ++ n2 ++ bad) (visited 0 1 above 1 0 1) ≡ seen false (boxAnswer 0 0))

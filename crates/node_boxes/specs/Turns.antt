@@ -5,10 +5,10 @@ use mathlib.Core.Option.{Option, none, some}
 use mathlib.Core.List.{List, [], _∷_}
 use Prim.Native.Nat.{ℕ, zero, suc, _+_, _-_}
 use lib.Dec.{leb}
-use lib.IntN.{ℤ}
-use lib.ListN.{length}
+use lib.IntN.{ℤ, pos}
+use lib.ListN.{length, getD}
 use Rattle.kinds.specs.Kinds.{kindLineString, width}
-use Rattle.refusals.specs.Refusals.{illFormedStore}
+use Rattle.refusals.specs.Refusals.{illFormedStore, noFiniteNumber, numberTooLarge}
 use Rattle.store.specs.Rows.{spanStartAt, spanLengthAt}
 use Rattle.nodes.specs.declared.Visit.{Visit}
 use Rattle.nodes.specs.declared.Met.{Met}
@@ -19,17 +19,11 @@ use Rattle.rounding.specs.declared.Reckoned.{Reckoned}
 use Rattle.rounding.specs.declared.Reckoned.the-variants.{Sides, Named, Beyond, NoNumber}
 use Rattle.decimal.specs.Reckon.{reckoned}
 use Rattle.bounds.specs.declared.BoxAnswer.{BoxAnswer}
-use Rattle.bounds.specs.Bounds.{Bounds, box, opened, widened, closed, boxAnswer}
+use Rattle.bounds.specs.Bounds.{Bounds, lower, higher, box, nothing, opened, settled, closed, boxAnswer}
 use Rattle.node_boxes.specs.declared.Seen.{Seen}
-use Rattle.node_boxes.specs.Boxes.{lowIn, highIn, offenceOf, fine, offenceAt, orFirst}
+use Rattle.node_boxes.specs.Boxes.{fine, orFirst}
 
 -- ---- numbers
-abbrev pub isNumeral : Reckoned → Bool
-isNumeral (Sides low high) = true
-isNumeral Named = true
-isNumeral Beyond = true
-isNumeral NoNumber = false
-
 -- what the number row i comes to
 unfoldable pub reckonedAt : List ℕ → List ℕ → ℕ → Reckoned
 reckonedAt text numbers i = cond (leb (spanStartAt numbers i + spanLengthAt numbers i) (length text)) (reckoned (textAt text numbers i)) NoNumber
@@ -49,31 +43,67 @@ offenceIn s = boxAnswer (s .number) (s .place)
 abbrev pub unseen : Seen
 unseen = seen true fine
 
--- one coordinate more, of w numbers from `at` on, and n more
+-- an X or Y that offends, in the number row i: it counts, if none before it did
+abbrev pub foundOn : List ℕ → ℕ → ℕ → Seen → Seen
+foundOn numbers i number s = seen (s .good) (orFirst (offenceIn s) (boxAnswer number (spanStartAt numbers i)))
+
+-- one X or Y more: "30 for inf or nan, 31 for an exponent beyond 9,999 either way or a scaled size over 10^17"
+abbrev pub seenNext : List ℕ → ℕ → Reckoned → Seen → Seen
+seenNext numbers i (Sides low high) s = s
+seenNext numbers i Named s = foundOn numbers i noFiniteNumber s
+seenNext numbers i Beyond s = foundOn numbers i numberTooLarge s
+seenNext numbers i NoNumber s = seen false (offenceIn s)
+
+-- the first k of X and Y, of the coordinate at `at`
+unfoldable pub seenUpTo : List ℕ → List ℕ → ℕ → ℕ → Seen → Seen
+seenUpTo text numbers at zero s = s
+seenUpTo text numbers at (suc k) s = seenNext numbers (at + k) (reckonedAt text numbers (at + k)) (seenUpTo text numbers at k s)
+
+-- one coordinate more, of w numbers from `at` on, and n more: the others need be numbers, and no more
+abbrev pub withOthers : Bool → Seen → Seen
+withOthers others s = seen (s .good && others) (offenceIn s)
+
 unfoldable pub seenOne : List ℕ → List ℕ → ℕ → ℕ → Seen → Seen
-seenOne text numbers w at s =
-    seen
-    (((s .good && isNumeral (reckonedAt text numbers at)) && isNumeral (reckonedAt text numbers (at + 1))) && areGood text numbers (at + 2) (w - 2))
-    (orFirst (orFirst (offenceIn s) (offenceAt numbers at (offenceOf (reckonedAt text numbers at)))) (offenceAt numbers (at + 1) (offenceOf (reckonedAt text numbers (at + 1)))))
+seenOne text numbers w at s = withOthers (areGood text numbers (at + 2) (w - 2)) (seenUpTo text numbers at 2 s)
 
 unfoldable pub seenOn : List ℕ → List ℕ → ℕ → ℕ → ℕ → Seen → Seen
 seenOn text numbers w at zero s = s
 seenOn text numbers w at (suc n) s = seenOn text numbers w (at + w) n (seenOne text numbers w at s)
 
--- the box of the coordinate at `at`; and the box of row i is widened by n of them
-abbrev pub cornerAt : List ℕ → List ℕ → ℕ → Bounds
-cornerAt text numbers at = box (lowIn (reckonedAt text numbers at)) (highIn (reckonedAt text numbers at)) (lowIn (reckonedAt text numbers (at + 1))) (highIn (reckonedAt text numbers (at + 1)))
+-- ---- the box around coordinates, whose lows and highs stand by axis: X, then Y
+abbrev pub HaveAxes : List ℤ → List ℤ → Type 0
+HaveAxes lows highs = (length lows ≡ 2) × (length highs ≡ 2)
 
-unfoldable pub widenedOn : List ℕ → List ℕ → ℕ → ℕ → ℕ → ℕ → List ℤ → List ℤ
-widenedOn text numbers i w at zero t = t
-widenedOn text numbers i w at (suc n) t = widenedOn text numbers i w (at + w) n (widened t i (cornerAt text numbers at))
+abbrev pub boundsIn : List ℤ → List ℤ → Bounds
+boundsIn lows highs = box (getD lows 0 (pos 0)) (getD highs 0 (pos 0)) (getD lows 1 (pos 0)) (getD highs 1 (pos 0))
+
+-- on one axis it is widened by a low and a high side
+abbrev pub widenedAxis : ℕ → ℤ → ℤ → Bounds → Bounds
+widenedAxis zero low high b = box (lower (b .left) low) (higher (b .right) high) (b .bottom) (b .top)
+widenedAxis (suc k) low high b = box (b .left) (b .right) (lower (b .bottom) low) (higher (b .top) high)
+
+-- a number without sides widens nothing
+abbrev pub axisNext : ℕ → Reckoned → Bounds → Bounds
+axisNext axis (Sides low high) b = widenedAxis axis low high b
+axisNext axis Named b = b
+axisNext axis Beyond b = b
+axisNext axis NoNumber b = b
+
+-- by the first k of X and Y, of the coordinate at `at`; and by n coordinates
+unfoldable pub sidedUpTo : List ℕ → List ℕ → ℕ → ℕ → Bounds → Bounds
+sidedUpTo text numbers at zero b = b
+sidedUpTo text numbers at (suc k) b = axisNext k (reckonedAt text numbers (at + k)) (sidedUpTo text numbers at k b)
+
+unfoldable pub aroundOn : List ℕ → List ℕ → ℕ → ℕ → ℕ → Bounds → Bounds
+aroundOn text numbers w at zero b = b
+aroundOn text numbers w at (suc n) b = aroundOn text numbers w (at + w) n (sidedUpTo text numbers at 2 b)
 
 -- ---- nodes: a node's own coordinates, which kinds 1 and 2 have
 unfoldable pub own : List ℕ → List ℕ → Visit → Seen
 own text numbers v = cond (leb (v .kind) kindLineString) (seenOn text numbers (width (v .dimension)) (v .number) (v .parts) unseen) unseen
 
-unfoldable pub widenedBy : List ℕ → List ℕ → Visit → List ℤ → List ℤ
-widenedBy text numbers v t = cond (leb (v .kind) kindLineString) (widenedOn text numbers (v .row) (width (v .dimension)) (v .number) (v .parts) t) t
+abbrev pub ownBox : List ℕ → List ℕ → Visit → Bounds
+ownBox text numbers v = aroundOn text numbers (width (v .dimension)) (v .number) (v .parts) nothing
 
 -- whether all numbers are some, so far
 unfoldable pub goodBy : List ℕ → List ℕ → Bool → List Met → Bool
@@ -91,12 +121,15 @@ offenceBy text numbers a (End i n ∷ ms) = offenceBy text numbers a ms
 offenceBy text numbers a (Done ∷ ms) = offenceBy text numbers a ms
 offenceBy text numbers a (Ill ∷ ms) = offenceBy text numbers a ms
 
--- the table, so far: a node without child rows has ended at once
+-- the table, so far: a node that has coordinates itself has ended at once, and so has one without child rows
+abbrev pub endedLeaf : Visit → List ℤ → List ℤ
+endedLeaf v t = cond (isLeaf v) (closed t (v .row)) t
+
 unfoldable pub entered : List ℕ → List ℕ → Visit → List ℤ → List ℤ
 entered text numbers v t =
-    cond (isLeaf v)
-    (closed (widenedBy text numbers v (opened t (v .row) (v .parent .row))) (v .row))
-    (widenedBy text numbers v (opened t (v .row) (v .parent .row)))
+    cond (leb (v .kind) kindLineString)
+    (settled t (v .row) (v .parent .row) (ownBox text numbers v))
+    (endedLeaf v (opened t (v .row) (v .parent .row)))
 
 unfoldable pub tableBy : List ℕ → List ℕ → List ℤ → List Met → List ℤ
 tableBy text numbers t [] = t

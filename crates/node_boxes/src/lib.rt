@@ -6,13 +6,15 @@ ghost use Rattle.walk.specs.Walk.{CoordinatesIn, NumbersIn};
 ghost use Rattle.kinds.specs.Kinds.{width};
 ghost use Rattle.shape.specs.Walk.{wholeWalk};
 ghost use Rattle.shape.specs.Store.{areWhole};
-ghost use mathlib.Core.Bool.{cond};
+ghost use mathlib.Core.Bool.{false, cond};
 ghost use Rattle.nodes.specs.Nodes.{isLeaf};
-ghost use Rattle.bounds.specs.Bounds.{boxRoom, closed};
-ghost use Rattle.node_boxes.specs.Boxes.{lowIn, highIn, offenceOf, offenceAt, orFirst, boxesOf, FillsTable};
-ghost use Rattle.node_boxes.specs.Turns.{isNumeral, reckonedAt, areGood, offenceIn, unseen, seenOne, seenOn, widenedOn, own, widenedBy, entered, verdict, FilledBy};
+ghost use Rattle.bounds.specs.Bounds.{nothing, boxRoom, settled, closed};
+ghost use Rattle.node_boxes.specs.Boxes.{orFirst, boxesOf, FillsTable};
+ghost use Rattle.node_boxes.specs.Turns.{reckonedAt, areGood, seen, offenceIn, unseen, foundOn, seenUpTo, seenOn, HaveAxes, boundsIn, widenedAxis, sidedUpTo, aroundOn, own, entered, verdict, FilledBy};
 use bounds::BOX_WIDTH;
 use bounds::BoxAnswer;
+use bounds::EDGE;
+use bounds::NO_EDGE;
 use kinds::KIND_LINESTRING;
 use nodes::Met;
 use nodes::Visit;
@@ -25,8 +27,8 @@ use store::NODE_WIDTH;
 use store::NUMBER_WIDTH;
 use walk::CELLS;
 
-// How many numbers of a coordinate have sides: X and Y.
-const SIDED: usize = 2;
+// How many numbers of a coordinate have sides: X and Y, each on an axis of its own.
+const AXES: usize = 2;
 
 // What was seen of coordinates: whether all their numbers are some, and the first offence or zeros.
 struct Seen {
@@ -47,51 +49,6 @@ fn reckon_at(text: &[u8], numbers: &[u32], i: usize) -> Reckoned
     decimal::reckon(&text[start..end])
 }
 
-fn is_numeral(x: Reckoned) -> bool
-    ensures { λ r. ⌜ r ≡ isNumeral x ⌝ }
-{
-    match x {
-        Reckoned::Sides(_, _) => true,
-        Reckoned::Named => true,
-        Reckoned::Beyond => true,
-        Reckoned::NoNumber => false,
-    }
-}
-
-// What refuses an X or Y, or 0.
-fn offence_of(x: Reckoned) -> u32
-    ensures { λ r. ⌜ r ≡ offenceOf x ⌝ }
-{
-    match x {
-        Reckoned::Sides(_, _) => 0,
-        Reckoned::Named => NO_FINITE_NUMBER,
-        Reckoned::Beyond => NUMBER_TOO_LARGE,
-        Reckoned::NoNumber => 0,
-    }
-}
-
-fn low_of(x: Reckoned) -> i64
-    ensures { λ r. ⌜ r ≡ lowIn x ⌝ }
-{
-    match x {
-        Reckoned::Sides(low, _) => low,
-        Reckoned::Named => 0,
-        Reckoned::Beyond => 0,
-        Reckoned::NoNumber => 0,
-    }
-}
-
-fn high_of(x: Reckoned) -> i64
-    ensures { λ r. ⌜ r ≡ highIn x ⌝ }
-{
-    match x {
-        Reckoned::Sides(_, high) => high,
-        Reckoned::Named => 0,
-        Reckoned::Beyond => 0,
-        Reckoned::NoNumber => 0,
-    }
-}
-
 // Whether `count` numbers from `first` on are numbers in the text: Z and M need be no more.
 fn are_good(text: &[u8], numbers: &[u32], first: usize, count: usize) -> bool
     requires { ⌜ first + count ≤ numberRoom (now numbers) ⌝ }
@@ -105,25 +62,6 @@ fn are_good(text: &[u8], numbers: &[u32], first: usize, count: usize) -> bool
         i += 1;
     }
     true
-}
-
-// The offence that was found, or else that of one number more.
-fn or_first(found: BoxAnswer, numbers: &[u32], i: usize, number: u32) -> BoxAnswer
-    ensures { λ r. ⌜ r ≡ orFirst found (offenceAt (now (numbers .entry)) i number) ⌝ }
-{
-    if found.number != 0 {
-        return found;
-    }
-    if number != 0 {
-        return BoxAnswer {
-            number,
-            place: store::start_at(numbers, i) as usize,
-        };
-    }
-    BoxAnswer {
-        number: 0,
-        place: 0,
-    }
 }
 
 // The offence that was found, or else that of a node's coordinates.
@@ -149,66 +87,106 @@ fn nothing_seen() -> Seen
     }
 }
 
-// One coordinate more, of `width` numbers from `at` on.
-fn look_at(
-    text: &[u8],
-    numbers: &[u32],
-    width: usize,
-    at: usize,
-    s: Seen,
-    x: Reckoned,
-    y: Reckoned,
-) -> Seen
-    requires { ⌜ (2 ≤ width) × (at + width ≤ numberRoom (now numbers)) ⌝ }
-    requires { ⌜ (x ≡ reckonedAt (now text) (now numbers) at) × (y ≡ reckonedAt (now text) (now numbers) (at + 1)) ⌝ }
-    ensures { λ r. ⌜ r ≡ seenOne (now (text .entry)) (now (numbers .entry)) width at s ⌝ }
+// An X or Y is no number: the rows are no store, whatever else offends.
+fn no_number(s: Seen) -> Seen
+    ensures { λ r. ⌜ r ≡ seen false (offenceIn s) ⌝ }
 {
-    let others = are_good(text, numbers, at + SIDED, width - SIDED);
-    let before = BoxAnswer {
+    Seen {
+        good: false,
         number: s.number,
         place: s.place,
-    };
-    let with_x = or_first(before, numbers, at, offence_of(x));
-    let found = or_first(with_x, numbers, at + 1, offence_of(y));
-    Seen {
-        good: s.good & is_numeral(x) & is_numeral(y) & others,
-        number: found.number,
-        place: found.place,
     }
 }
 
-// The coordinates of a node that has them itself: its box is widened by each.
-fn look_at_all(text: &[u8], numbers: &[u32], table: &mut [i64], v: Visit) -> Seen
-    requires { ⌜ CoordinatesIn (numberRoom (now numbers)) v ⌝ }
-    ensures seen { λ r. ⌜ r ≡ seenOn (now (text .entry)) (now (numbers .entry)) (width (v .dimension)) (v .number) (v .parts) unseen ⌝ }
-    ensures table { λ _. ⌜ now (table .exit) ≡ widenedOn (now (text .entry)) (now (numbers .entry)) (v .row) (width (v .dimension)) (v .number) (v .parts) (now (table .entry)) ⌝ }
+// An X or Y has no place in a box: it counts, if none before it did.
+fn offended(s: Seen, numbers: &[u32], i: usize, number: u32) -> Seen
+    ensures { λ r. ⌜ r ≡ foundOn (now (numbers .entry)) i number s ⌝ }
 {
-    let width = kinds::width_of(v.dimension);
-    let row = v.row;
-    let mut s = nothing_seen();
-    let mut at = v.number;
-    let mut left = v.parts;
-    while 0 < left {
-        let x = reckon_at(text, numbers, at);
-        let y = reckon_at(text, numbers, at + 1);
-        bounds::widen(table, row, low_of(x), high_of(x), low_of(y), high_of(y));
-        s = look_at(text, numbers, width, at, s, x, y);
-        at += width;
-        left -= 1;
+    let mut found = number;
+    let mut place = store::start_at(numbers, i) as usize;
+    if s.number != 0 {
+        found = s.number;
+        place = s.place;
+    }
+    Seen {
+        good: s.good,
+        number: found,
+        place,
+    }
+}
+
+// The sides of the axis are widened, so that they hold two others.
+fn widen_axis(lows: &mut [i64; AXES], highs: &mut [i64; AXES], axis: usize, low: i64, high: i64)
+    requires { ⌜ (axis < 2) × HaveAxes (now lows) (now highs) ⌝ }
+    ensures axes { λ _. ⌜ HaveAxes (now (lows .exit)) (now (highs .exit)) ⌝ }
+    ensures around { λ _. ⌜ boundsIn (now (lows .exit)) (now (highs .exit)) ≡ widenedAxis axis low high (boundsIn (now (lows .entry)) (now (highs .entry))) ⌝ }
+{
+    lows[axis] = bounds::lower_of(lows[axis], low);
+    highs[axis] = bounds::higher_of(highs[axis], high);
+}
+
+// X and Y of the coordinate at `at`: each widens the sides of its axis, or has none.
+fn look_at_both(
+    text: &[u8],
+    numbers: &[u32],
+    lows: &mut [i64; AXES],
+    highs: &mut [i64; AXES],
+    at: usize,
+    before: Seen,
+) -> Seen
+    requires { ⌜ (at + 2 ≤ numberRoom (now numbers)) × HaveAxes (now lows) (now highs) ⌝ }
+    ensures axes { λ _. ⌜ HaveAxes (now (lows .exit)) (now (highs .exit)) ⌝ }
+    ensures seen { λ r. ⌜ r ≡ seenUpTo (now (text .entry)) (now (numbers .entry)) at 2 before ⌝ }
+    ensures around { λ _. ⌜ boundsIn (now (lows .exit)) (now (highs .exit)) ≡ sidedUpTo (now (text .entry)) (now (numbers .entry)) at 2 (boundsIn (now (lows .entry)) (now (highs .entry))) ⌝ }
+{
+    let mut s = before;
+    let mut axis = 0;
+    while axis < AXES {
+        let i = at + axis;
+        let x = reckon_at(text, numbers, i);
+        match x {
+            Reckoned::Sides(low, high) => {
+                widen_axis(lows, highs, axis, low, high);
+            },
+            Reckoned::Named => {
+                s = offended(s, numbers, i, NO_FINITE_NUMBER);
+            },
+            Reckoned::Beyond => {
+                s = offended(s, numbers, i, NUMBER_TOO_LARGE);
+            },
+            Reckoned::NoNumber => {
+                s = no_number(s);
+            },
+        }
+        axis += 1;
     }
     s
 }
 
-// A node's own coordinates: kinds 1 and 2 have some.
-fn own_of(text: &[u8], numbers: &[u32], table: &mut [i64], v: Visit) -> Seen
-    requires { ⌜ NumbersIn (numberRoom (now numbers)) v ⌝ }
-    ensures seen { λ r. ⌜ r ≡ own (now (text .entry)) (now (numbers .entry)) v ⌝ }
-    ensures table { λ _. ⌜ now (table .exit) ≡ widenedBy (now (text .entry)) (now (numbers .entry)) v (now (table .entry)) ⌝ }
+// The coordinates of a node that has them itself: the box around them is its own, and is known when all are seen.
+fn look_at_all(text: &[u8], numbers: &[u32], table: &mut [i64], v: Visit) -> Seen
+    requires { ⌜ CoordinatesIn (numberRoom (now numbers)) v ⌝ }
+    ensures seen { λ r. ⌜ r ≡ seenOn (now (text .entry)) (now (numbers .entry)) (width (v .dimension)) (v .number) (v .parts) unseen ⌝ }
+    ensures table { λ _. ⌜ now (table .exit) ≡ settled (now (table .entry)) (v .row) (v .parent .row) (aroundOn (now (text .entry)) (now (numbers .entry)) (width (v .dimension)) (v .number) (v .parts) nothing) ⌝ }
 {
-    if v.kind <= KIND_LINESTRING {
-        return look_at_all(text, numbers, table, v);
+    let width = kinds::width_of(v.dimension);
+    let row = v.row;
+    let parent = v.parent.row;
+    let mut lows = [EDGE; AXES];
+    let mut highs = [NO_EDGE; AXES];
+    let mut s = nothing_seen();
+    let mut at = v.number;
+    let mut left = v.parts;
+    while 0 < left {
+        s = look_at_both(text, numbers, &mut lows, &mut highs, at, s);
+        if AXES < width {
+            s.good = s.good & are_good(text, numbers, at + AXES, width - AXES);
+        }
+        at += width;
+        left -= 1;
     }
-    nothing_seen()
+    bounds::settle(table, row, parent, lows[0], highs[0], lows[1], highs[1]);
+    s
 }
 
 // A node without child rows has ended.
@@ -220,16 +198,18 @@ fn end_leaf(table: &mut [i64], v: Visit)
     }
 }
 
-// A node is met: it is opened and widened by its own coordinates, and without child rows it has ended.
+// A node is met. One that has coordinates itself has ended when they are seen; any other is opened, and without child rows it has ended.
 fn enter(text: &[u8], numbers: &[u32], table: &mut [i64], v: Visit) -> Seen
     requires { ⌜ NumbersIn (numberRoom (now numbers)) v ⌝ }
     ensures seen { λ r. ⌜ r ≡ own (now (text .entry)) (now (numbers .entry)) v ⌝ }
     ensures table { λ _. ⌜ now (table .exit) ≡ entered (now (text .entry)) (now (numbers .entry)) v (now (table .entry)) ⌝ }
 {
+    if v.kind <= KIND_LINESTRING {
+        return look_at_all(text, numbers, table, v);
+    }
     bounds::open(table, v.row, v.parent.row);
-    let s = own_of(text, numbers, table, v);
     end_leaf(table, v);
-    s
+    nothing_seen()
 }
 
 // 22 comes before 30 and 31: they count only where all numbers are some.

@@ -32,29 +32,24 @@ cell-at-requires-4 c κs = search needs
 cell-at-requires-5 : tie.Need-cell-at-requires-5
 cell-at-requires-5 c κs = search needs
 
-widen-above-requires : tie.Need-widen-above-requires
-widen-above-requires c κs = search needs
-
-put-done-requires : tie.Need-put-done-requires
-put-done-requires c κs = search needs
+settle-requires : tie.Need-settle-requires
+settle-requires c κs = search needs
 
 same-length-2 : tie.Need-same-length-2
 same-length-2 c = search needs
 
 returns-2 : tie.Need-returns-2
 returns-2 c =
-    c .before .put-done .ensures
+    c .before .settle .ensures
     ∙ closes _ _ _
-    (back _ (record { sfits = c .before .before .before .before .before .before .before .before .before .before .before .before .before .before .before .cell-at .ok }) ∙ c .before .before .before .before .before .before .before .before .before .before .before .before .before .before .before .cell-at .ensures)
-    (c .before .before .before .before .before .before .before .before .before .before .before .before .before .before .if1 .left)
+    (back _ (record { sfits = c .before .before .before .before .before .before .before .before .before .before .before .before .cell-at .ok }) ∙ c .before .before .before .before .before .before .before .before .before .before .before .before .cell-at .ensures)
+    (c .before .before .before .before .before .before .before .before .before .before .before .if1 .left)
     _
     (same-box
-    (back _ (record { sfits = c .before .before .before .before .before .before .before .before .before .before .before .before .cell-at2 .ok }) ∙ c .before .before .before .before .before .before .before .before .before .before .before .before .cell-at2 .ensures)
-    (back _ (record { sfits = c .before .before .before .before .before .before .before .before .before .before .cell-at3 .ok }) ∙ c .before .before .before .before .before .before .before .before .before .before .cell-at3 .ensures)
-    (back _ (record { sfits = c .before .before .before .before .before .before .before .before .cell-at4 .ok }) ∙ c .before .before .before .before .before .before .before .before .cell-at4 .ensures)
-    (back _ (record { sfits = c .before .before .before .before .before .before .cell-at5 .ok }) ∙ c .before .before .before .before .before .before .cell-at5 .ensures))
-    _
-    (c .before .before .before .before .widen-above .ensures)
+    (back _ (record { sfits = c .before .before .before .before .before .before .before .before .before .cell-at2 .ok }) ∙ c .before .before .before .before .before .before .before .before .before .cell-at2 .ensures)
+    (back _ (record { sfits = c .before .before .before .before .before .before .before .cell-at3 .ok }) ∙ c .before .before .before .before .before .before .before .cell-at3 .ensures)
+    (back _ (record { sfits = c .before .before .before .before .before .cell-at4 .ok }) ∙ c .before .before .before .before .before .cell-at4 .ensures)
+    (back _ (record { sfits = c .before .before .before .cell-at5 .ok }) ∙ c .before .before .before .cell-at5 .ensures))
 
 pub close-spec : {M : Type 1} → statement M
 close-spec =
@@ -68,7 +63,6 @@ close-spec =
     cell-at-requires-3
     cell-at-requires-4
     cell-at-requires-5
-    widen-above-requires
-    put-done-requires
+    settle-requires
     same-length-2
     returns-2)
