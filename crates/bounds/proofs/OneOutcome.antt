@@ -7,20 +7,17 @@ use lib.IntN.{ℤ}
 use Rattle.lists.specs.One.{One}
 use Rattle.lists.proofs.One.{one}
 use Rattle.bounds.specs.declared.BoxAnswer.{BoxAnswer}
-use Rattle.bounds.specs.Bounds.{lower, higher, box, opened, widened, settled, closed, cleared, Refuses}
+use Rattle.bounds.specs.Bounds.{lower, higher, box, opened, settled, closed, cleared, Refuses}
 
-pub lower-of-one : (a b : ℤ) → One (λ r. r ≡ lower a b)
-lower-of-one a b = one
+pub lower_of-one : (a b : ℤ) → One (λ r. r ≡ lower a b)
+lower_of-one a b = one
 
-pub higher-of-one : (a b : ℤ) → One (λ r. r ≡ higher a b)
-higher-of-one a b = one
+pub higher_of-one : (a b : ℤ) → One (λ r. r ≡ higher a b)
+higher_of-one a b = one
 
 module _ (table : List ℤ) where
   pub open-one : (row parent : ℕ) → One (λ left. left ≡ opened table row parent)
   open-one row parent = one
-
-  pub widen-one : (row : ℕ) (left right bottom top : ℤ) → One (λ after. after ≡ widened table row (box left right bottom top))
-  widen-one row left right bottom top = one
 
   pub settle-one : (row parent : ℕ) (left right bottom top : ℤ) → One (λ after. after ≡ settled table row parent (box left right bottom top))
   settle-one row parent left right bottom top = one

@@ -72,7 +72,7 @@ pub fn open(table: &mut [i64], row: usize, parent: usize)
 }
 
 // The box of a row is widened, so that it holds another.
-pub fn widen(table: &mut [i64], row: usize, left: i64, right: i64, bottom: i64, top: i64)
+fn widen(table: &mut [i64], row: usize, left: i64, right: i64, bottom: i64, top: i64)
     ensures { λ _. ⌜ now (table .exit) ≡ widened (now (table .entry)) row (box left right bottom top) ⌝ }
 {
     let first = cell_at(table, row, 0);

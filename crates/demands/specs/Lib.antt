@@ -12,3 +12,4 @@ pub mod Stored
 pub mod Boxes
 pub mod StoredExamples
 pub mod FormerExamples
+pub mod BoxesExamples
