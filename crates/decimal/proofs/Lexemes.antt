@@ -75,10 +75,10 @@ module _ (w : List ℕ) (from : ℕ) (signed : from ≡ afterOneAt isSign w 0) w
   unfolding isLexeme
   only-sign h = no-lexeme w (ap isUnsigned (sym (bare w from signed) ∙ rest-past w from h) ∙ nothing)
 
-  module _ (h : from < length w) (good : isLexeme w ≡ true) (digit : Bool) (d : digit ≡ isDigit (getD w from 0)) where
-    pub is-word : (digit || isPoint (getD w from 0)) ≡ false → Named ≡ reckoned w
+  module _ (h : from < length w) (digit : Bool) (d : digit ≡ isDigit (getD w from 0)) where
+    pub is-word : isLexeme w ≡ true → (digit || isPoint (getD w from 0)) ≡ false → Named ≡ reckoned w
     unfolding reckoned isLexeme isUnsigned
-    is-word f =
+    is-word good f =
         let l = afterOne isSign w in
         let none = or-none digit (isPoint (getD w from 0)) f in
         let front : (p : ℕ → Bool) → p (getD w from 0) ≡ false → begins p l ≡ false = λ p e. ap (begins p) (sym (bare w from signed)) ∙ sym (begins-at p w from h) ∙ e in
@@ -87,20 +87,30 @@ module _ (w : List ℕ) (from : ℕ) (signed : from ≡ afterOneAt isSign w 0) w
         rw (good, named)
 
     module _ (t : (digit || isPoint (getD w from 0)) ≡ true) where
-      is-decimal : sidesOf (written w) ≡ reckoned w
-      unfolding reckoned
-      is-decimal =
-          let named : isNamed (afterOne isSign w) ≡ false = ap isNamed (sym (bare w from signed) ∙ rest-in w from h) ∙ not-named (getD w from 0) (rest w (from + 1)) (rw d at t) in
-          rw (good, named)
+      no-word : isNamed (afterOne isSign w) ≡ false
+      no-word = ap isNamed (sym (bare w from signed) ∙ rest-in w from h) ∙ not-named (getD w from 0) (rest w (from + 1)) (rw d at t)
 
-      written-is : written w ≡ unsignedDecimal (eqb (getD w 0 0) 45) (rest w from)
-      unfolding written
-      written-is = ap₂ unsignedDecimal (sym (minus-is w from signed h)) (sym (bare w from signed))
+      -- it is a number's text where it is a decimal
+      lexeme-is : isLexeme w ≡ isDecimal isNil (rest w from)
+      unfolding isLexeme isUnsigned
+      lexeme-is = ap (λ (b : Bool). b || isDecimal isNil (afterOne isSign w)) no-word ∙ ap (isDecimal isNil) (sym (bare w from signed))
 
-      pub is-sized : (whole : ℕ) (left : Bool) → SizeIs (unsignedDecimal false (rest w from)) whole left → rounded (eqb (getD w 0 0) 45) whole left ≡ reckoned w
-      is-sized whole left s =
-          size-sides (unsignedDecimal (eqb (getD w 0 0) 45) (rest w from)) whole left (size-signed false (eqb (getD w 0 0) 45) (rest w from) whole left s) ∙ ap sidesOf (sym written-is) ∙ is-decimal
+      pub no-decimal : isDecimal isNil (rest w from) ≡ false → NoNumber ≡ reckoned w
+      no-decimal f = no-lexeme w (lexeme-is ∙ f)
 
-      pub is-far : isFar (unsignedDecimal false (rest w from)) ≡ true → Beyond ≡ reckoned w
-      unfolding sidesOf
-      is-far f = sym (ap sidesOf written-is ∙ rw f) ∙ is-decimal
+      module _ (v : isDecimal isNil (rest w from) ≡ true) where
+        is-decimal : sidesOf (written w) ≡ reckoned w
+        unfolding reckoned
+        is-decimal = rw (lexeme-is ∙ v, no-word)
+
+        written-is : written w ≡ unsignedDecimal (eqb (getD w 0 0) 45) (rest w from)
+        unfolding written
+        written-is = ap₂ unsignedDecimal (sym (minus-is w from signed h)) (sym (bare w from signed))
+
+        pub is-sized : (whole : ℕ) (left : Bool) → SizeIs (unsignedDecimal false (rest w from)) whole left → rounded (eqb (getD w 0 0) 45) whole left ≡ reckoned w
+        is-sized whole left s =
+            size-sides (unsignedDecimal (eqb (getD w 0 0) 45) (rest w from)) whole left (size-signed false (eqb (getD w 0 0) 45) (rest w from) whole left s) ∙ ap sidesOf (sym written-is) ∙ is-decimal
+
+        pub is-far : isFar (unsignedDecimal false (rest w from)) ≡ true → Beyond ≡ reckoned w
+        unfolding sidesOf
+        is-far f = sym (ap sidesOf written-is ∙ rw f) ∙ is-decimal

@@ -196,10 +196,12 @@ module _ {w : List ℕ} {at i raw : ℕ} {all : Bool} (h : SevenSoFar w at all r
 -- ---- a number held at 10000
 pub record HeldFrom (w : List ℕ) (from n i : ℕ) : Type 0 where
   pub small : n ≤ 10000
+  pub within : i ≤ length w
   pub told : min (readOn n (leading isDigit (rest w i))) 10000 ≡ min (valueOf (leading isDigit (rest w from))) 10000
+  pub ends : firstNot isDigit w i ≡ firstNot isDigit w from
 
-pub holds-none : (w : List ℕ) (from : ℕ) → HeldFrom w from 0 from
-holds-none w from = record { small = omega arith; told = refl }
+pub holds-none : (w : List ℕ) (from : ℕ) → from ≤ length w → HeldFrom w from 0 from
+holds-none w from h = record { small = omega arith; within = h; told = refl; ends = refl }
 
 module _ {w : List ℕ} {from n i : ℕ} (h : HeldFrom w from n i) where
   holds-all : leading isDigit (rest w i) ≡ [] → n ≡ min (valueOf (leading isDigit (rest w from))) 10000
@@ -207,17 +209,21 @@ module _ {w : List ℕ} {from n i : ℕ} (h : HeldFrom w from n i) where
       let z : n ≡ min n 10000 = omega (arith, h .small) in
       z ∙ sym (ap (λ (k : ℕ). min k 10000) (ap (readOn n) e ∙ read-none n)) ∙ h .told
 
-  pub holds-end : length w ≤ i → n ≡ min (valueOf (leading isDigit (rest w from))) 10000
-  holds-end l = holds-all (leading-past isDigit w i l)
+  pub holds-end : length w ≤ i → (n ≡ min (valueOf (leading isDigit (rest w from))) 10000) × (i ≡ firstNot isDigit w from)
+  holds-end l =
+      let z : i ≡ firstNot isDigit w i = omega (arith, past isDigit w i l, h .within) in
+      (holds-all (leading-past isDigit w i l), z ∙ h .ends)
 
   module _ (l : i < length w) where
-    pub holds-stop : isDigit (getD w i 0) ≡ false → n ≡ min (valueOf (leading isDigit (rest w from))) 10000
-    holds-stop t = holds-all (leading-stop isDigit w i l t)
+    pub holds-stop : isDigit (getD w i 0) ≡ false → (n ≡ min (valueOf (leading isDigit (rest w from))) 10000) × (i ≡ firstNot isDigit w from)
+    holds-stop t = (holds-all (leading-stop isDigit w i l t), sym (stop isDigit w i l t) ∙ h .ends)
 
     pub holds-on : (m : ℕ) → isDigit (getD w i 0) ≡ true → m ≡ min (n * 10 + (getD w i 0 - 48)) 10000 → HeldFrom w from m (i + 1)
     holds-on m t e =
         record {
           small = omega arith;
+          within = omega arith;
+          ends = on isDigit w i l t ∙ h .ends;
           told = ap (λ (k : ℕ). min (readOn k (leading isDigit (rest w (i + 1)))) 10000) e
               ∙ held-on (n * 10 + (getD w i 0 - 48)) 10000 (leading isDigit (rest w (i + 1)))
               ∙ ap (λ (k : ℕ). min k 10000) (sym (ap (readOn n) (leading-on isDigit w i l t) ∙ read-one n (getD w i 0) (leading isDigit (rest w (i + 1)))))

@@ -1,18 +1,19 @@
 -- A decimal by the places in its text where its digits, its point and its exponent stand: what is kept of it comes to its size.
 -- Assumes nothing.
 use mathlib.Core.Path.{_≡_, refl, ap, ap₂, _∙_}
-use mathlib.Core.Bool.{Bool, true, false, cond, _&&_}
+use mathlib.Core.Bool.{Bool, true, false, cond, _&&_, _||_}
 use mathlib.Core.List.{List, _++_}
 use Prim.Native.Nat.{ℕ, _+_, _-_, _≤_, _<_, min}
 use native.Mathlib.Omega.{arith}
+use lib.Dec.{ltb}
 use lib.ListN.{length}
 use borrow.Author.Tests.{lt-ltb, le-ltb}
 use Rattle.lists.specs.Lists.{every}
 use Rattle.scan.specs.Bytes.{isDigit, isPoint}
-use Rattle.scan.specs.Front.{rest, begins, afterOne, afterAll}
+use Rattle.scan.specs.Front.{rest, begins, afterOne, afterAll, isNil}
 use Rattle.scan.specs.Runs.{afterOneAt}
-use Rattle.scan.proofs.Runs.{rest-run, rest-one, not-past, one-not-before, one-not-past}
-use Rattle.number.specs.Lexeme.{afterWhole}
+use Rattle.scan.proofs.Runs.{moves, rest-run, rest-one, not-past, one-not-before, one-not-past}
+use Rattle.number.specs.Lexeme.{afterWhole, isDecimal}
 use Rattle.number.proofs.Plain.{every-append}
 use Rattle.decimal.specs.declared.Kept.{Kept}
 use Rattle.decimal.specs.declared.Size.{Size}
@@ -58,6 +59,14 @@ module _ (w : List ℕ) (from : ℕ) (whole : Kept) (kw : Keeps w (kept 0 0 fals
     all-at = ap (rest w) (ka .end) ∙ rest-run isDigit w first ∙ ap (afterAll isDigit) first-at
 
     module _ (x : Exponent) (e : x ≡ exponentOf (rest w (all .end))) where
+      -- whether it is a decimal: a digit before the point or behind it, and then an exponent or the end
+      pub decimal-is : ((ltb from (whole .end) || ltb first (all .end)) && x .good) ≡ isDecimal isNil (rest w from)
+      unfolding isDecimal exponentOf
+      decimal-is =
+          ap₂ _&&_
+          (ap₂ _||_ (ap (ltb from) (kw .end) ∙ moves isDigit w from) (ap (ltb first) (ka .end) ∙ moves isDigit w first ∙ ap (begins isDigit) first-at))
+          (ap (λ (k : Exponent). k .good) (e ∙ ap exponentOf all-at))
+
       lowers-is : x .lowers ≡ begins isMinus (behindE (rest w from))
       unfolding exponentOf
       lowers-is = ap (λ (k : Exponent). k .lowers) (e ∙ ap exponentOf all-at)

@@ -1,20 +1,22 @@
 -- The digits at the front of a text, by where they end, and its parts: digits after a point, and an exponent.
 -- Assumes nothing.
 use mathlib.Core.Path.{_≡_, refl, sym, ap, ap₂, _∙_}
-use mathlib.Core.Bool.{Bool, true, false, cond, _&&_, false≢true}
+use mathlib.Core.Bool.{Bool, true, false, cond, _&&_, _||_, and-assoc, false≢true}
 use mathlib.Core.List.{List, [], _∷_, _++_}
 use Prim.Native.Nat.{ℕ, zero, suc, _+_, _-_, _*_, _^_, _≤_, _<_, min}
 use native.Mathlib.Nat.{mul-one}
 use native.Mathlib.Omega.{arith}
 use lib.ListN.{length, take, drop, getD, length-drop, take-append-drop, drop-of-length-le}
+use lib.Dec.{leb, ltb}
+use borrow.Author.Tests.{lt-leb}
 use lib.Seq.{take-all, drop-drop, length-take-le}
 use Rattle.lists.specs.Lists.{every}
 use Rattle.scan.specs.Bytes.{isDigit, isSign}
-use Rattle.scan.specs.Front.{rest, part, begins, afterOne, afterAll}
+use Rattle.scan.specs.Front.{rest, part, begins, afterOne, afterAll, isNil}
 use Rattle.scan.specs.Runs.{run, firstNot, afterOneAt}
-use Rattle.scan.proofs.Front.{rest-past, tail-part}
-use Rattle.scan.proofs.Runs.{rest-one}
-use Rattle.number.specs.Lexeme.{isE}
+use Rattle.scan.proofs.Front.{rest-past, tail-part, nil-at, begins-at}
+use Rattle.scan.proofs.Runs.{rest-one, rest-run, moves, one-not-past}
+use Rattle.number.specs.Lexeme.{isE, isDigits, isExponent}
 use Rattle.number.proofs.Plain.{every-append}
 use Rattle.decimal.specs.declared.Exponent.{Exponent}
 use Rattle.decimal.specs.declared.Tail.{Tail}
@@ -81,19 +83,38 @@ module _ (p : ℕ → Bool) where
 
 -- ---- an exponent
 module _ (w : List ℕ) (at : ℕ) where
-  pub exponent-past : length w ≤ at → _≡_ {A = Exponent} (record { lowers = false; size = 0 }) (exponentOf (rest w at))
-  unfolding exponentOf begins afterOne
+  pub exponent-past : length w ≤ at → _≡_ {A = Exponent} (record { good = true; lowers = false; size = 0 }) (exponentOf (rest w at))
+  unfolding exponentOf isExponent isNil begins afterOne
   exponent-past h = rw (rest-past w at h, leading-nil isDigit, value-none)
 
-  pub exponent-at : (sign : ℕ) (lowers : Bool) (first size : ℕ) → sign ≡ afterOneAt isE w at → lowers ≡ begins isMinus (rest w sign) → first ≡ afterOneAt isSign w sign → size ≡ min (valueOf (leading isDigit (rest w first))) 10000 → _≡_ {A = Exponent} (record { lowers = lowers; size = size }) (exponentOf (rest w at))
+  -- it is one and ends the text: its `e`, and digits up to the end
+  exponent-good : at < length w → (is-e : Bool) (first end : ℕ) → is-e ≡ isE (getD w at 0) → rest w first ≡ afterOne isSign (afterOne isE (rest w at)) → end ≡ firstNot isDigit w first →
+      ((is-e && ltb first end) && leb (length w) end) ≡ isExponent isNil (rest w at)
+  unfolding isExponent isDigits
+  exponent-good h is-e first end e d n =
+      let l : List ℕ = rest w at in
+      let digits : List ℕ = afterOne isSign (afterOne isE l) in
+      let some : ltb first end ≡ begins isDigit digits = ap (ltb first) n ∙ moves isDigit w first ∙ ap (begins isDigit) d in
+      let last : leb (length w) end ≡ isNil (afterAll isDigit digits) = nil-at w end ∙ ap isNil (ap (rest w) n ∙ rest-run isDigit w first ∙ ap (afterAll isDigit) d) in
+      let more : isNil l ≡ false = sym (nil-at w at) ∙ lt-leb (length w) at h in
+      and-assoc is-e (ltb first end) (leb (length w) end)
+      ∙ ap₂ _&&_ (e ∙ begins-at isE w at h) (ap₂ _&&_ some last)
+      ∙ sym (ap (λ (t : Bool). t || (begins isE l && (begins isDigit digits && isNil (afterAll isDigit digits)))) more)
+
+  pub exponent-at : at < length w → (is-e : Bool) (sign : ℕ) (lowers : Bool) (first size end : ℕ) → is-e ≡ isE (getD w at 0) → sign ≡ afterOneAt isE w at → lowers ≡ begins isMinus (rest w sign) → first ≡ afterOneAt isSign w sign
+      → size ≡ min (valueOf (leading isDigit (rest w first))) 10000 → end ≡ firstNot isDigit w first → _≡_ {A = Exponent} (record { good = (is-e && ltb first end) && leb (length w) end; lowers = lowers; size = size }) (exponentOf (rest w at))
   unfolding exponentOf
-  exponent-at sign lowers first size s n f v =
+  exponent-at h is-e sign lowers first size end e s n f v t =
       let behind : rest w sign ≡ afterOne isE (rest w at) = ap (rest w) s ∙ rest-one isE w at refl in
       let digits : rest w first ≡ afterOne isSign (afterOne isE (rest w at)) = ap (rest w) f ∙ rest-one isSign w sign refl ∙ ap (afterOne isSign) behind in
-      same (n ∙ ap (begins isMinus) behind) (v ∙ ap (λ (l : List ℕ). min (valueOf (leading isDigit l)) 10000) digits)
+      same (exponent-good h is-e first end e digits t) (n ∙ ap (begins isMinus) behind) (v ∙ ap (λ (l : List ℕ). min (valueOf (leading isDigit l)) 10000) digits)
     where
-      same : {a b : Bool} {m n : ℕ} → a ≡ b → m ≡ n → _≡_ {A = Exponent} (record { lowers = a; size = m }) (record { lowers = b; size = n })
-      same p q = λ i. record { lowers = p i; size = q i }
+      same : {g k a b : Bool} {m n : ℕ} → g ≡ k → a ≡ b → m ≡ n → _≡_ {A = Exponent} (record { good = g; lowers = a; size = m }) (record { good = k; lowers = b; size = n })
+      same o p q = λ i. record { good = o i; lowers = p i; size = q i }
+
+  -- the place behind its sign is no place past the end
+  pub sign-inside : at < length w → (sign first : ℕ) → sign ≡ afterOneAt isE w at → first ≡ afterOneAt isSign w sign → first ≤ length w
+  sign-inside h sign first s f = rw f (one-not-past isSign w sign refl (rw s (one-not-past isE w at refl (omega arith))))
 
 -- ---- digits after a point
 leftOf : Tail → Bool

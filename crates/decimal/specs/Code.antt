@@ -7,9 +7,9 @@ use lib.Dec.{eqb, leb, ltb}
 use lib.ListN.{length, take, drop}
 use Rattle.lists.specs.Lists.{every}
 use Rattle.scan.specs.Bytes.{isDigit, isSign}
-use Rattle.scan.specs.Front.{rest, begins, afterOne}
+use Rattle.scan.specs.Front.{rest, begins, afterOne, isNil}
 use Rattle.scan.specs.Runs.{firstNot}
-use Rattle.number.specs.Lexeme.{isE, isPlain}
+use Rattle.number.specs.Lexeme.{isE, isExponent, isDecimal, isPlain}
 use Rattle.decimal.specs.declared.Kept.{Kept}
 use Rattle.decimal.specs.declared.Size.{Size}
 use Rattle.decimal.specs.declared.Exponent.{Exponent}
@@ -21,7 +21,7 @@ use Rattle.decimal.specs.declared.Plain.{Plain}
 use Rattle.decimal.specs.declared.Plain.the-variants as plain
 use Rattle.decimal.specs.declared.Scaled.{Scaled}
 use Rattle.decimal.specs.declared.Scaled.the-variants as scaled
-use Rattle.decimal.specs.Decimal.{leading, valueOf, isMinus, Decimal, written}
+use Rattle.decimal.specs.Decimal.{leading, valueOf, isMinus, Decimal, unsignedDecimal, written}
 use Rattle.rounding.specs.Rounding.{sizeLimit, isOver}
 use Rattle.decimal.specs.Units.{unitPlaces, wholeUnits, isLeft, isFar, isLarge}
 
@@ -71,6 +71,7 @@ pub record Keeps (w : List ℕ) (k r : Kept) : Type 0 where
 -- ---- an exponent, at what follows the digits: its size is held one above the limit
 unfoldable pub exponentOf : List ℕ → Exponent
 exponentOf l = record {
+  good = isExponent isNil l;
   lowers = begins isMinus (afterOne isE l);
   size = min (valueOf (leading isDigit (afterOne isSign (afterOne isE l)))) 10000;
 }
@@ -95,9 +96,11 @@ pub record SizeIs (x : Decimal) (whole : ℕ) (rest : Bool) : Type 0 where
   pub units : isOver whole rest ≡ false → whole ≡ wholeUnits x
   pub left : isOver whole rest ≡ false → rest ≡ isLeft x
 
-abbrev pub TellsSize : Decimal → Scaled → Type 0
-TellsSize x (scaled.Size whole rest) = SizeIs x whole rest
-TellsSize x scaled.Far = isFar x ≡ true
+-- of a text behind its sign: whether it is a decimal, and if so its size
+abbrev pub TellsSize : List ℕ → Scaled → Type 0
+TellsSize l (scaled.Size whole rest) = (isDecimal isNil l ≡ true) × SizeIs (unsignedDecimal false l) whole rest
+TellsSize l scaled.Far = (isDecimal isNil l ≡ true) × (isFar (unsignedDecimal false l) ≡ true)
+TellsSize l scaled.Other = isDecimal isNil l ≡ false
 
 -- ---- a text that has no exponent, is no word and has at most ten digits before its point: its size is told at once
 pub record PlainSize (w : List ℕ) (negative : Bool) (whole : ℕ) (rest : Bool) : Type 0 where

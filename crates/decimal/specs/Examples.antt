@@ -185,10 +185,13 @@ keeping : (keepOne (kept 12 0 false 2) 51 ≡ kept 123 0 false 3) × (keepAll (k
 unfolding all code
 keeping = (refl, refl, refl, refl)
 
--- an exponent, held at 10000
-exponents : (exponentOf [] ≡ record { lowers = false; size = 0 }) × (exponentOf (bytes "e5") ≡ record { lowers = false; size = 5 }) × (exponentOf (bytes "E-9999") ≡ record { lowers = true; size = 9999 }) × (exponentOf (bytes "e+123456") ≡ record { lowers = false; size = 10000 })
+-- an exponent that ends the text, held at 10000, or none; and what is no exponent: no `e`, no digit behind it, more behind its digits
+exponents :
+    (exponentOf [] ≡ record { good = true; lowers = false; size = 0 }) × (exponentOf (bytes "e5") ≡ record { good = true; lowers = false; size = 5 })
+    × (exponentOf (bytes "E-9999") ≡ record { good = true; lowers = true; size = 9999 }) × (exponentOf (bytes "e+123456") ≡ record { good = true; lowers = false; size = 10000 })
+    × (exponentOf (bytes "x5") .good ≡ false) × (exponentOf (bytes "5") .good ≡ false) × (exponentOf (bytes "e") .good ≡ false) × (exponentOf (bytes "e-") .good ≡ false) × (exponentOf (bytes "e5x") .good ≡ false) × (exponentOf (bytes "e5.") .good ≡ false)
 unfolding all code
-exponents = (refl, refl, refl, refl)
+exponents = (refl, refl, refl, refl, refl, refl, refl, refl, refl, refl)
 
 -- kept digits with tens above the line and below it: held at 10^17 + 1, and divided
 sizes : (sizeOf (kept 12 0 false 2) 7 4 ≡ size 12000 false) × (sizeOf (kept 12 0 true 2) 99 4 ≡ size 100000000000000001 true) × (sizeOf (kept 1234 0 false 4) 7 9 ≡ size 12 true) × (sizeOf (kept 1200 0 false 4) 7 9 ≡ size 12 false) × (sizeOf (kept 1200 0 true 4) 7 9 ≡ size 12 true)

@@ -14,7 +14,8 @@ ghost use lib.ListN.{length, take, drop};
 ghost use Rattle.scan.specs.Bytes.{isDigit};
 ghost use Rattle.scan.specs.Front.{rest, part};
 ghost use Rattle.rounding.specs.Rounding.{sizeLimit};
-ghost use Rattle.decimal.specs.Decimal.{leading, valueOf, unsignedDecimal};
+ghost use Rattle.scan.specs.Runs.{firstNot};
+ghost use Rattle.decimal.specs.Decimal.{leading, valueOf};
 ghost use Rattle.decimal.specs.Reckon.{reckoned};
 ghost use Rattle.decimal.specs.Code.{rawOn, tailOf, fractionOf, keepOne, Keeps, exponentOf, held, size, sizeOf, TellsPlain, TellsSize};
 
@@ -52,10 +53,11 @@ struct Size {
     rest: bool,
 }
 
-// A decimal's size in units, held at SIZE_HELD; or its exponent is beyond the limit.
+// A decimal's size in units, held at SIZE_HELD; or its exponent is beyond the limit; or the text is no decimal.
 enum Scaled {
     Size(u64, bool),
     Far,
+    Other,
 }
 
 // Seven bytes: whether all are digits, and what they say if each '0' is taken for 48.
@@ -70,8 +72,15 @@ struct Run {
     end: usize,
 }
 
-// An exponent: whether it lowers the number, and its size, held at EXPONENT_HELD.
+// An exponent's digits: what they say, held at EXPONENT_HELD, and where they end.
+struct Held {
+    size: usize,
+    end: usize,
+}
+
+// An exponent: whether it is one and ends the text, or the text ends before it; whether it lowers the number, and its size, held at EXPONENT_HELD.
 struct Exponent {
+    good: bool,
     lowers: bool,
     size: usize,
 }
@@ -308,8 +317,10 @@ fn keep_digits(w: &[u8], before: Kept) -> Kept
 }
 
 // The number that the digits from `from` on say, held at EXPONENT_HELD.
-fn held_number(w: &[u8], from: usize) -> usize
-    ensures { λ r. ⌜ r ≡ min (valueOf (leading isDigit (rest (now (w .entry)) from))) 10000 ⌝ }
+fn held_number(w: &[u8], from: usize) -> Held
+    requires { ⌜ from ≤ length (now w) ⌝ }
+    ensures size { λ r. ⌜ r .size ≡ min (valueOf (leading isDigit (rest (now (w .entry)) from))) 10000 ⌝ }
+    ensures end { λ r. ⌜ r .end ≡ firstNot isDigit (now (w .entry)) from ⌝ }
 {
     let mut n: usize = 0;
     let mut i = from;
@@ -321,11 +332,11 @@ fn held_number(w: &[u8], from: usize) -> usize
                 n = EXPONENT_HELD;
             }
         } else {
-            return n;
+            return Held { size: n, end: i };
         }
         i += 1;
     }
-    n
+    Held { size: n, end: i }
 }
 
 // The exponent at `at`, if there is one.
@@ -334,22 +345,27 @@ fn read_exponent(w: &[u8], at: usize) -> Exponent
 {
     if w.len() <= at {
         return Exponent {
+            good: true,
             lowers: false,
             size: 0,
         };
     }
     let b = w[at];
+    let is_e = (b == b'e') | (b == b'E');
     let mut sign = at;
-    if (b == b'e') | (b == b'E') {
+    if is_e {
         sign = at + 1;
     }
     let mut lowers = false;
     if sign < w.len() {
         lowers = w[sign] == b'-';
     }
+    let first = after_sign(w, sign);
+    let digits = held_number(w, first);
     Exponent {
+        good: is_e & (first < digits.end) & (w.len() <= digits.end),
         lowers,
-        size: held_number(w, after_sign(w, sign)),
+        size: digits.size,
     }
 }
 
@@ -396,10 +412,10 @@ fn size_of(k: Kept, above: usize, below: usize) -> Size
     lowered(k.value, below - above, k.rest)
 }
 
-// The size of a decimal, from its first digit or its point on.
+// The size of a decimal, from its first digit or its point on: whether it is one is told on the same way.
 fn decimal_size(w: &[u8], from: usize) -> Scaled
     requires { ⌜ from ≤ length (now w) ⌝ }
-    ensures { λ r. ⌜ TellsSize (unsignedDecimal false (rest (now (w .entry)) from)) r ⌝ }
+    ensures { λ r. ⌜ TellsSize (rest (now (w .entry)) from) r ⌝ }
 {
     let whole = keep_digits(
         w,
@@ -421,6 +437,10 @@ fn decimal_size(w: &[u8], from: usize) -> Scaled
         },
     );
     let exponent = read_exponent(w, all.end);
+    let has_digit = (from < whole.end) | (first < all.end);
+    if !(has_digit & exponent.good) {
+        return Scaled::Other;
+    }
     if EXPONENT_LIMIT < exponent.size {
         return Scaled::Far;
     }
@@ -434,26 +454,27 @@ fn decimal_size(w: &[u8], from: usize) -> Scaled
     Scaled::Size(s.whole, s.rest)
 }
 
-// Any text that isn't told at once.
+// Any text that isn't told at once: a word, by its first byte behind the sign, or a decimal.
 fn reckon_any(w: &[u8]) -> Reckoned
     ensures { λ r. ⌜ r ≡ reckoned (now (w .entry)) ⌝ }
 {
-    if !number::is_lexeme(w) {
-        return Reckoned::NoNumber;
-    }
     let from = after_sign(w, 0);
     if w.len() <= from {
         return Reckoned::NoNumber;
     }
     let b = w[from];
     if !(is_digit(b) | (b == b'.')) {
-        return Reckoned::Named;
+        if number::is_lexeme(w) {
+            return Reckoned::Named;
+        }
+        return Reckoned::NoNumber;
     }
     let minus = w[0] == b'-';
     let scaled = decimal_size(w, from);
     match scaled {
         Scaled::Size(whole, rest) => rounding::round(minus, whole, rest),
         Scaled::Far => Reckoned::Beyond,
+        Scaled::Other => Reckoned::NoNumber,
     }
 }
 

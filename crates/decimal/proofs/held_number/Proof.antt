@@ -18,7 +18,7 @@ abbrev μ-loop : tie.MeasureT-loop
 μ-loop w from n₀ i₀ n i = length w - i
 
 loop-holds : tie.Need-loop-holds Inv-loop μ-loop
-loop-holds c = holds-none _ _
+loop-holds c = holds-none _ _ (c .before .pre)
 
 shared-slice-read-b : tie.Need-shared-slice-read-b Inv-loop μ-loop
 shared-slice-read-b c = search needs
