@@ -1,6 +1,6 @@
 -- What the loops over digits have read at each turn.
 -- Assumes nothing.
-use mathlib.Core.Path.{_≡_, refl, sym, ap, _∙_}
+use mathlib.Core.Path.{_≡_, refl, sym, ap, _∙_, subst}
 use mathlib.Core.Bool.{Bool, true, false, cond, not, _||_, _&&_, and-true}
 use mathlib.Core.List.{List, [], _∷_, _++_}
 use Prim.Native.Nat.{ℕ, suc, _+_, _-_, _*_, _^_, _≤_, _<_, min}
@@ -10,7 +10,7 @@ use native.Mathlib.Omega.{arith}
 use lib.Dec.{eqb, ltb}
 use lib.ListN.{length, take, drop, getD, length-drop, take-append-drop}
 use lib.Seq.{take-suc, drop-drop, getD-drop}
-use borrow.Author.Tests.{ne-eqb}
+use borrow.Author.Tests.{ne-eqb, lt-ltb, le-ltb}
 use Rattle.lists.specs.Lists.{every}
 use Rattle.rounding.specs.Rounding.{sizeLimit}
 use Rattle.scan.specs.Bytes.{isDigit}
@@ -23,7 +23,7 @@ use Rattle.number.proofs.Plain.{every-append}
 use Rattle.decimal.specs.declared.Kept.{Kept}
 use Rattle.decimal.specs.declared.Tail.the-variants as tail
 use Rattle.decimal.specs.Decimal.{leading, readOn, valueOf}
-use Rattle.decimal.specs.Code.{rawOn, isNought, tailOf, keepOne, keepAll, Keeps}
+use Rattle.decimal.specs.Code.{rawOn, isNought, tailOf, keepOne, keepAll, Keeps, kept}
 use Rattle.decimal.proofs.Value.{held-on}
 use Rattle.decimal.proofs.Digits.{leading-on, leading-stop, leading-past, part-on, part-stop, part-past}
 
@@ -281,4 +281,41 @@ module _ {w : List ℕ} {before k : Kept} {i : ℕ} (h : KeepsOn w before k i) w
       fewer = d;
       told = ap (λ (x : Kept). keepAll x (leading isDigit (rest w (i + 1)))) e ∙ sym (ap (keepAll k) (leading-on isDigit w i l t) ∙ keep-first k (getD w i 0) (leading isDigit (rest w (i + 1)))) ∙ h .told;
       ends = on isDigit w i l t ∙ h .ends;
+    }
+
+  -- what is kept behind it is kept behind what was before
+  pub keeps-then : {r : Kept} → Keeps w k r → Keeps w before r
+  keeps-then r = record {
+    is = r .is ∙ ap (λ (n : ℕ). keepAll k (leading isDigit (rest w n))) (h .place) ∙ h .told;
+    end = r .end ∙ ap (firstNot isDigit w) (h .place) ∙ h .ends;
+    value = r .value;
+    dropped = r .dropped;
+  }
+
+-- ---- one digit more: it is kept below the limit, and from there on only told
+pub keeps-value : (k : Kept) (b : ℕ) → k .value < sizeLimit → kept (k .value * 10 + (b - 48)) (k .dropped) (k .rest) (k .end + 1) ≡ keepOne k b
+keeps-value k b h = rw (lt-ltb (k .value) sizeLimit h)
+
+drops-digit : (k : Kept) (b : ℕ) → sizeLimit ≤ k .value → kept (k .value) (k .dropped + 1) (k .rest || not (isNought b)) (k .end + 1) ≡ keepOne k b
+drops-digit k b h = rw (le-ltb (k .value) sizeLimit h)
+
+-- ---- digits that are only told, up to i
+pub record DropsOn (w : List ℕ) (k : Kept) (rest : Bool) (i : ℕ) : Type 0 where
+  pub keeps : KeepsOn w k (kept (k .value) (k .dropped + (i - k .end)) rest i) i
+  pub later : k .end ≤ i
+
+pub drops-none : (w : List ℕ) (k : Kept) → k .end ≤ length w → k .value < 10 * sizeLimit → k .dropped ≤ k .end → DropsOn w k (k .rest) (k .end)
+drops-none w k h v d =
+    let e : k .dropped ≡ k .dropped + (k .end - k .end) = omega arith in
+    record { keeps = subst (λ (n : ℕ). KeepsOn w k (kept (k .value) n (k .rest) (k .end)) (k .end)) e (keeps-none w k h v d); later = omega arith }
+
+pub drops-more : {w : List ℕ} {k : Kept} {rest : Bool} {i : ℕ} → DropsOn w k rest i → sizeLimit ≤ k .value → i < length w → isDigit (getD w i 0) ≡ true → DropsOn w k (rest || not (isNought (getD w i 0))) (i + 1)
+drops-more {w} {k} {rest} {i} h v l t =
+    let n : k .dropped + (i + 1 - k .end) ≡ k .dropped + (i - k .end) + 1 = omega (arith, h .later) in
+    let r : Bool = rest || not (isNought (getD w i 0)) in
+    record {
+      keeps = keeps-more (h .keeps) l (kept (k .value) (k .dropped + (i + 1 - k .end)) r (i + 1)) t
+          (ap (λ (d : ℕ). kept (k .value) d r (i + 1)) n ∙ drops-digit (kept (k .value) (k .dropped + (i - k .end)) rest i) (getD w i 0) v)
+          (h .keeps .small) (omega (arith, h .keeps .fewer, n));
+      later = omega (arith, h .later);
     }

@@ -17,7 +17,7 @@ ghost use Rattle.rounding.specs.Rounding.{sizeLimit};
 ghost use Rattle.scan.specs.Runs.{firstNot};
 ghost use Rattle.decimal.specs.Decimal.{leading, valueOf};
 ghost use Rattle.decimal.specs.Reckon.{reckoned};
-ghost use Rattle.decimal.specs.Code.{rawOn, tailOf, fractionOf, keepOne, Keeps, exponentOf, held, size, sizeOf, TellsPlain, TellsSize};
+ghost use Rattle.decimal.specs.Code.{rawOn, tailOf, fractionOf, Keeps, exponentOf, held, size, sizeOf, TellsPlain, TellsSize};
 
 // How many digits after the point make a unit.
 const UNIT_PLACES: usize = 7;
@@ -276,44 +276,54 @@ fn read_plain(w: &[u8]) -> Plain
     }
 }
 
-// One digit more.
-fn keep_one(k: Kept, b: u8) -> Kept
-    requires { ⌜ (isDigit b ≡ true) × (k .value < 10 * sizeLimit) × (k .dropped ≤ k .end) × (k .end + 1 < 2 ^ 64) ⌝ }
-    ensures { λ r. ⌜ (r ≡ keepOne k b) × (r .value < 10 * sizeLimit) × (r .dropped ≤ r .end) ⌝ }
+// The digits from `k.end` on, where no more are kept: how many they are, and whether one of them isn't 0.
+fn drop_digits(w: &[u8], k: Kept) -> Kept
+    requires { ⌜ (sizeLimit ≤ k .value) × (k .value < 10 * sizeLimit) × (k .dropped ≤ k .end) × (k .end ≤ length (now w)) ⌝ }
+    ensures { λ r. ⌜ Keeps (now (w .entry)) k r ⌝ }
 {
-    if k.value < SIZE_LIMIT {
-        return Kept {
-            value: k.value * 10 + ((b - b'0') as u64),
-            dropped: k.dropped,
-            rest: k.rest,
-            end: k.end + 1,
-        };
+    let mut rest = k.rest;
+    let mut i = k.end;
+    while i < w.len() {
+        let b = w[i];
+        if !is_digit(b) {
+            break;
+        }
+        rest = rest | (b != b'0');
+        i += 1;
     }
     Kept {
         value: k.value,
-        dropped: k.dropped + 1,
-        rest: k.rest | (b != b'0'),
-        end: k.end + 1,
+        dropped: k.dropped + (i - k.end),
+        rest,
+        end: i,
     }
 }
 
-// The digits from `before.end` on, after those that are kept already.
+// The digits from `before.end` on, after those that are kept already: they are kept as long as the number that they say is below the limit.
 fn keep_digits(w: &[u8], before: Kept) -> Kept
     requires { ⌜ (before .value < 10 * sizeLimit) × (before .dropped ≤ before .end) × (before .end ≤ length (now w)) ⌝ }
     ensures { λ r. ⌜ Keeps (now (w .entry)) before r ⌝ }
 {
-    let mut k = before;
+    let mut value = before.value;
     let mut i = before.end;
     while i < w.len() {
         let b = w[i];
-        if is_digit(b) {
-            k = keep_one(k, b);
-        } else {
-            return k;
+        if !is_digit(b) | (SIZE_LIMIT <= value) {
+            break;
         }
+        value = value * 10 + ((b - b'0') as u64);
         i += 1;
     }
-    k
+    let k = Kept {
+        value,
+        dropped: before.dropped,
+        rest: before.rest,
+        end: i,
+    };
+    if value < SIZE_LIMIT {
+        return k;
+    }
+    drop_digits(w, k)
 }
 
 // The number that the digits from `from` on say, held at EXPONENT_HELD.
