@@ -1,7 +1,7 @@
 -- Worked examples of this crate's definitions, by computation: the parts of a decimal as they are written, its fraction, its units, and what each sort of text
 -- comes to.
 use mathlib.Core.Path.{_≡_, refl}
-use mathlib.Core.Bool.{Bool, true, false, not, _&&_}
+use mathlib.Core.Bool.{Bool, true, false, _&&_}
 use mathlib.Core.List.{List, [], _∷_, map}
 use Prim.Native.Nat.{ℕ, _+_, _^_}
 use lib.Dec.{eqb}

@@ -3,13 +3,13 @@
 use mathlib.Core.Path.{_≡_, refl, ap, ap₂, sym, _∙_, subst}
 use mathlib.Core.Bool.{Bool, true, false, cond, _&&_, and-true, and-false, and-assoc}
 use mathlib.Core.List.{List, [], _∷_, _++_, flatMap, append-nil, append-assoc}
-use Prim.Native.Nat.{ℕ, zero, suc, _+_, _-_, _*_, _≤_, _<_}
+use Prim.Native.Nat.{ℕ, zero, suc, _+_, _-_, _≤_}
 use native.Mathlib.Omega.{arith}
 use lib.Dec.{eqb, leb}
 use lib.ListN.{length, length-append}
 use Rattle.lists.specs.Lists.{All}
 use Rattle.kinds.specs.Kinds.{kindPoint, kindLineString, kindPolygon, kindMultiPoint, kindMultiLineString, kindMultiPolygon, kindGeometryCollection, width}
-use Rattle.store.specs.Rows.{Row, spanStartAt, spanLengthAt, spanAt}
+use Rattle.store.specs.Rows.{Row, spanStartAt, spanLengthAt}
 use Rattle.tree.specs.Tree.{Coord, Node, pointN, lineN, polygonN, multipointN, multilineN, multipolygonN, collectionN, Tree, rowOver, rowsWith, noRows, pointRows, lineRows, polygonRows, rows, coordTexts, lineTexts, polygonTexts, nodeTexts, noTexts, texts, CoordShape, LineShape, PolygonShape, NodeShape, NoShape, Shape}
 use Rattle.nodes.specs.declared.Frame.{Frame}
 use Rattle.nodes.specs.declared.Met.{Met}

@@ -10,7 +10,6 @@ use lib.Dec.{leb}
 use lib.IntN.{ℤ, pos}
 use lib.Seq.{drop-nil, getD-append-add}
 use lib.ListN.{length, drop, getD, length-append, length-drop, List·getD-append}
-use Rattle.limits.specs.Limits.{depthLimit}
 use Rattle.lists.specs.Lists.{All}
 use Rattle.kinds.specs.Kinds.{kindPoint, kindLineString, kindPolygon, kindMultiPoint, kindMultiLineString, kindMultiPolygon, kindGeometryCollection, width}
 use Rattle.store.specs.Rows.{Row}

@@ -4,11 +4,11 @@ use mathlib.Core.Path.{_≡_, refl, ap, ap₂, sym, _∙_, subst}
 use mathlib.Core.Bool.{Bool, true, false, false≢true, cond, _&&_, and-true}
 use mathlib.Core.Option.{Option, none, some}
 use mathlib.Core.List.{List, [], _∷_, _++_, map, flatMap}
-use Prim.Native.Nat.{ℕ, zero, suc, _+_, _-_, _*_, _/_, _≤_, _<_}
+use Prim.Native.Nat.{ℕ, zero, suc, _+_, _-_, _*_, _≤_, _<_}
 use native.Mathlib.Omega.{arith}
 use borrow.Author.Tests.{lt-ltb, le-ltb, eq-eqb, ne-eqb}
-use lib.Dec.{eqb, leb, ltb}
-use lib.IntN.{ℤ, pos}
+use lib.Dec.{leb}
+use lib.IntN.{ℤ}
 use native.Mathlib.Decide.{decLt}
 use lib.Seq.{getD-append-seam}
 use lib.ListN.{length, take, drop, getD, length-drop, List·getD-append}
@@ -23,25 +23,23 @@ use Rattle.refusals.specs.Refusals.{illFormedStore, noRoom}
 use Rattle.store.specs.Rows.{nodeRoom, numberRoom, spanStartAt, spanLengthAt, spanAt, spansIn, firsts}
 use Rattle.number.specs.Lexeme.{isLexeme}
 use Rattle.decimal.specs.Reckon.{reckoned}
-use Rattle.tree.specs.Tree.{Tree, rows, texts, Shape}
-use Rattle.tree.specs.TreeIn.{spanText, spanTexts, treeIn}
+use Rattle.tree.specs.Tree.{Tree, rows, texts}
+use Rattle.tree.specs.TreeIn.{spanText, treeIn}
 use Rattle.tree.proofs.TreeIn.{TreesOwn, trees-own}
-use Rattle.nodes.specs.declared.Met.{Met}
-use Rattle.nodes.specs.Nodes.{above}
 use Rattle.shape.specs.Numbers.{textAt, isNumber, isNumberAt, areNumbers}
-use Rattle.shape.specs.Store.{allRows, allSpans, allTexts, areWhole, treeOf, wellFormed, walkRoot}
+use Rattle.shape.specs.Store.{allRows, allTexts, areWhole, treeOf, wellFormed, walkRoot}
 use Rattle.shape.specs.Walk.{wholeWalk}
 use Rattle.shape.proofs.Stores.{grown, rows-walk, texts-count, store-tree}
 use Rattle.shape.proofs.Slices.{node-count}
 use Rattle.bounds.specs.declared.BoxAnswer.{BoxAnswer}
 use Rattle.bounds.specs.Bounds.{BoxRow, boxWidth, boxRoom, fiveOf, zeros, padded, cleared, boxAnswer, Refuses}
 use Rattle.tree.specs.Tree.{Coord}
-use Rattle.node_boxes.specs.Boxes.{xText, yText, offenceOf, offenceAt, orFirst, firstOffence, fine, coords, boxes, Outcome, boxed, refused, unlessOffence, boxesIf, boxesOf, answerOf, usedBoxes, FillsTable}
-use Rattle.node_boxes.specs.Turns.{reckonedAt, areGood, goodBy, offenceBy, tableBy, verdict, FilledBy}
+use Rattle.node_boxes.specs.Boxes.{xText, yText, offenceOf, offenceAt, orFirst, firstOffence, fine, coords, boxes, boxed, refused, unlessOffence, boxesIf, boxesOf, FillsTable}
+use Rattle.node_boxes.specs.Turns.{reckonedAt, areGood, goodBy, offenceBy, verdict, FilledBy}
 use Rattle.node_boxes.specs.Holds.{Placed}
 use Rattle.node_boxes.proofs.Rows.{over, length-over}
 use Rattle.node_boxes.proofs.Trees.{Reads, as-many, root-fills}
-use Rattle.node_boxes.proofs.Tallies.{good-append, first-assoc, offence-clean, root-good, root-offence}
+use Rattle.node_boxes.proofs.Tallies.{good-append, first-assoc, root-good, root-offence}
 use Rattle.node_boxes.proofs.Faults.{Numeric, tree-numeric, Says, no-fault, a-fault, says}
 
 -- ---- refusals

@@ -1,7 +1,7 @@
 -- Worked examples of this crate's definitions, by computation: the boxes of small stores, each refusal and their order, and what the code makes of the things
 -- that a walk meets.
 use mathlib.Core.Path.{_≡_, refl}
-use mathlib.Core.Bool.{Bool, true, false}
+use mathlib.Core.Bool.{true, false}
 use mathlib.Core.List.{List, [], _∷_, _++_, map, flatMap}
 use Prim.Native.Nat.{ℕ}
 use lib.IntN.{ℤ, pos, negℤ}
@@ -17,8 +17,8 @@ use Rattle.tree.specs.TreeIn.{onFront, asA, times, findText, findRow, exactlyOn
 use Rattle.nodes.specs.declared.Frame.{Frame}
 use Rattle.nodes.specs.declared.Visit.{Visit}
 use Rattle.nodes.specs.declared.Met.{Met}
-use Rattle.nodes.specs.declared.Met.the-variants.{Node, End, Done, Ill}
-use Rattle.nodes.specs.Nodes.{frame, above, visitOf, isLeaf}
+use Rattle.nodes.specs.declared.Met.the-variants.{Node, End, Done}
+use Rattle.nodes.specs.Nodes.{frame, above, visitOf}
 use Rattle.shape.specs.Numbers.{textAt, isNumberAt, areNumbers}
 use Rattle.shape.specs.Store.{areWhole, treeOf}
 use Rattle.rounding.specs.declared.Reckoned.the-variants.{Sides, Named, Beyond, NoNumber}
@@ -27,7 +27,7 @@ use Rattle.decimal.specs.Units.{wholeUnits, isLeft, low, high, isLarge}
 use Rattle.decimal.specs.Reckon.{sidesOf, reckoned}
 use Rattle.bounds.specs.Bounds.{BoxRow, box, boxRow, noBox, merge, nothing, doneRow, putFive, boxCell, opened, widened, closed, zeros, padded, boxAnswer}
 use Rattle.node_boxes.specs.Boxes.{xText, yText, lowest, highest, boxAround, nestBoxes, offenceOf, offenceAt, orFirst, firstOffence, fine, Outcome, boxed, refused, boxesOf, answerOf, usedBoxes}
-use Rattle.node_boxes.specs.Turns.{reckonedAt, areGood, seen, offenceIn, unseen, foundOn, seenNext, seenUpTo, withOthers, seenOne, seenOn, boundsIn, widenedAxis, axisNext, sidedUpTo, aroundOn, own, ownBox, endedLeaf, goodBy, offenceBy, entered, tableBy, verdict}
+use Rattle.node_boxes.specs.Turns.{reckonedAt, areGood, seen, unseen, foundOn, seenNext, seenUpTo, withOthers, seenOne, seenOn, boundsIn, widenedAxis, axisNext, sidedUpTo, aroundOn, own, ownBox, endedLeaf, goodBy, offenceBy, entered, tableBy, verdict}
 
 -- numbers, two words, what is too large, and what is none
 text : List ℕ

@@ -12,12 +12,6 @@ use Rattle.node_boxes.specs.Turns.{HaveAxes, boundsIn, widenedAxis}
 use Rattle.node_boxes.proofs.Loops.{Axes, axes-start, axes-on, axes-end}
 use Rattle.node_boxes.proofs.look_at_both.Statement.{statement}
 use Rattle.node_boxes.proofs.look_at_both.Tie as tie
-use Rattle.node_boxes.proofs.look_at_both.Reads as reads
-use Rattle.node_boxes.proofs.look_at_both.Lts as lts
-use Rattle.node_boxes.proofs.no_number.Reads as no-number-reads
-use Rattle.node_boxes.proofs.offended.Reads as offended-reads
-use Rattle.node_boxes.proofs.reckon_at.Reads as reckon-at-reads
-use Rattle.node_boxes.proofs.widen_axis.Reads as widen-axis-reads
 
 abbrev Inv-loop : tie.InvT-loop
 Inv-loop text numbers lows₀ highs₀ at s₀ axis₀ lows highs s axis = Axes text numbers at s₀ (boundsIn lows₀ highs₀) s axis (boundsIn lows highs) × HaveAxes lows highs
@@ -25,59 +19,45 @@ Inv-loop text numbers lows₀ highs₀ at s₀ axis₀ lows highs s axis = Axes 
 abbrev μ-loop : tie.MeasureT-loop
 μ-loop text numbers lows₀ highs₀ at s₀ axis₀ lows highs s axis = 2 - axis
 
--- src/lib.rt:147:5
 loop-holds : tie.Need-loop-holds Inv-loop μ-loop
 loop-holds c = (axes-start _ _ _ _ _, c .before .before .pre .1)
 
--- src/lib.rt:148:17
 add-i : tie.Need-add-i Inv-loop μ-loop
 add-i c = omega (arith, c .before .before .before .before .pre .0, c .loop-test .taken)
 
--- src/lib.rt:149:13
 reckon-at-requires : tie.Need-reckon-at-requires Inv-loop μ-loop
 reckon-at-requires c κs = search needs
 
--- src/lib.rt:151:29
 enum-known-x : tie.Need-enum-known-x Inv-loop μ-loop
 enum-known-x c = search needs
 
--- src/lib.rt:152:17
 widen-axis-requires : tie.Need-widen-axis-requires Inv-loop μ-loop
 widen-axis-requires c κs = (c .before .before .before .before .before .before .loop-test .taken, c .before .before .before .before .before .before .before .loop .inv .1)
 
--- src/lib.rt:155:17
 enum-told : tie.Need-enum-told Inv-loop μ-loop
 enum-told c = search needs
 
--- src/lib.rt:155:17
 offended-requires : tie.Need-offended-requires Inv-loop μ-loop
 offended-requires c κs = search needs
 
--- src/lib.rt:158:17
 enum-told-2 : tie.Need-enum-told-2 Inv-loop μ-loop
 enum-told-2 c = search needs
 
--- src/lib.rt:158:17
 offended-requires-2 : tie.Need-offended-requires-2 Inv-loop μ-loop
 offended-requires-2 c κs = search needs
 
--- src/lib.rt:161:17
 enum-told-3 : tie.Need-enum-told-3 Inv-loop μ-loop
 enum-told-3 c = search needs
 
--- src/lib.rt:161:17
 no-number-requires : tie.Need-no-number-requires Inv-loop μ-loop
 no-number-requires c κs = search needs
 
--- src/lib.rt:164:9
 add-axis : tie.Need-add-axis Inv-loop μ-loop
 add-axis c = omega (arith, c .before .before .loop-test .taken)
 
--- src/lib.rt:147:5
 loop-less : tie.Need-loop-less Inv-loop μ-loop
 loop-less c = omega (arith, c .before .before .loop-test .taken)
 
--- src/lib.rt:147:5
 loop-again : tie.Need-loop-again Inv-loop μ-loop
 loop-again c =
     let inv = c .before .before .before .loop .inv in
@@ -92,7 +72,6 @@ loop-again c =
     (λ w. (axes-on (inv .0) {x = NoNumber} (sym (w .1 .given .1) ∙ told) (w .5 ∙ w .2 .ensures) (ap₂ boundsIn (w .3) (w .4)) h, (ap length (w .3) ∙ inv .1 .0, ap length (w .4) ∙ inv .1 .1)))))
     (c .match .came)
 
--- src/lib.rt:132:1
 returns : tie.Need-returns Inv-loop μ-loop
 returns c = let l = c .before .loop .inv in let e = axes-end (l .0) (c .loop-test .left) in (l .1, (e .0, e .1))
 
