@@ -1,5 +1,5 @@
-// The exact value of a number's text in units of a ten-millionth, rounded down and up. A text is passed over once; of digits that no u64 holds any more
-// it is only kept how many they are and whether one of them isn't 0.
+// The exact value of a number's text in units of a ten-millionth, rounded down and up. A plain text is passed over once, as nearly all are; any other is given up
+// where it isn't plain and passed over once more. Of digits that no u64 holds any more it is only kept how many they are and whether one of them isn't 0.
 use rounding::Reckoned;
 use rounding::SIZE_LIMIT;
 use scan::after_point;
