@@ -8,7 +8,7 @@ use Rattle.scan.specs.Bytes.{space, parenOpen, parenClose, comma, plus, isPlus}
 use Rattle.scan.specs.Front.{begins}
 use Rattle.kinds.specs.Kinds.{kindPoint, kindLineString, kindPolygon, kindMultiPoint, kindMultiLineString, kindMultiPolygon, kindGeometryCollection, dimXY}
 use Rattle.names.specs.Letters.{isLetter}
-use Rattle.names.specs.Names.{names, endings}
+use Rattle.names.specs.Names.{names, endings, stringOf}
 use Rattle.names.specs.Strings.{empty}
 use Rattle.tree.specs.Tree.{Coord, Node, pointN, lineN, polygonN, multipointN, multilineN, multipolygonN, collectionN, Tree}
 
@@ -50,11 +50,6 @@ putParts f (x ∷ xs) r = inParens f (x ∷ xs) r
 unfoldable pub putNamed : {X : Type 0} → (X → List ℕ → List ℕ) → List X → List ℕ → List ℕ
 putNamed f [] r = space ∷ empty ++ r
 putNamed f (x ∷ xs) r = inParens f (x ∷ xs) r
-
--- the string that stands beside a number in a table
-unfoldable pub stringOf : List (ℕ × List ℕ) → ℕ → List ℕ
-stringOf [] n = []
-stringOf (entry ∷ table) n = cond (eqb n (entry .0)) (entry .1) (stringOf table n)
 
 -- "space and `Z`, `M` or `ZM` if any"
 unfoldable pub putDimension : ℕ → List ℕ → List ℕ

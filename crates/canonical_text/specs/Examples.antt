@@ -6,7 +6,8 @@ use Rattle.scan.specs.Text.{bytes}
 use Rattle.scan.specs.Front.{begins}
 use Rattle.kinds.specs.Kinds.{dimXY, dimXYZ}
 use Rattle.tree.specs.Tree.{Coord, pointN, lineN, polygonN, collectionN}
-use Rattle.canonical_text.specs.Canonical.{spell, each, separated, putParts, putNamed, putDimension, stringOf, putWith, canonicalText}
+use Rattle.names.specs.Names.{stringOf}
+use Rattle.canonical_text.specs.Canonical.{spell, each, separated, putParts, putNamed, putDimension, putWith, canonicalText}
 
 all : ℕ
 unfolding begins spell each separated putParts putNamed putDimension stringOf putWith

@@ -20,7 +20,8 @@ use Rattle.tree.specs.TreeIn as tree
 use Rattle.kinds.specs.Kinds.{kindPoint, kindLineString}
 use Rattle.lists.specs.Lists.{every}
 use Rattle.tree.proofs.TreeIn.{tree-in, TreesOwn, trees-own}
-use Rattle.canonical_text.specs.Canonical.{separated, putNamed, stringOf, putDimension, putWith, canonicalText}
+use Rattle.names.specs.Names.{stringOf}
+use Rattle.canonical_text.specs.Canonical.{separated, putNamed, putDimension, putWith, canonicalText}
 use Rattle.scan.specs.Bytes.{nul}
 use Rattle.token_stream.specs.Lex.{Lexed, markTk, flush, lexByte, lexRun, lex}
 use Rattle.grammar.specs.Asks.{bind, run, answerIn}

@@ -11,7 +11,7 @@ use Rattle.words.specs.Words.{sameWord}
 use Rattle.number.specs.Lexeme.{isNamed, isDigits, isExponent, isDecimal, isUnsigned, isLexeme}
 use Rattle.kinds.specs.Kinds.{kindPoint, kindLineString, kindPolygon, kindMultiPoint, kindMultiLineString, kindMultiPolygon, kindGeometryCollection, dimXY, dimXYZ, dimXYM, dimXYZM}
 use Rattle.lists.specs.Lists.{every}
-use Rattle.names.specs.Names.{spellings, lookup, meaning, ending}
+use Rattle.names.specs.Names.{stringOf, spellings, lookup, meaning, ending}
 use Rattle.store.specs.Rows.{Row, nodeOver, Span, span, closeIn}
 use Rattle.token.specs.Examples.{allBad}
 use Rattle.token_stream.specs.Lex.{markTk, numberTk, runTk, flush, push, lexByte, lexRun, lex}
@@ -119,7 +119,7 @@ all = 0
 
 -- and what its writing again does besides
 allWritten : ℕ
-unfolding kinds.width tree.onFront tree.asA tree.times tree.findText tree.findRow tree.exactlyOne tree.atMostOne tree.findParts tree.findNode tree.whole canonical.spell canonical.each canonical.separated canonical.putParts canonical.putNamed canonical.putDimension canonical.stringOf canonical.putWith
+unfolding kinds.width tree.onFront tree.asA tree.times tree.findText tree.findRow tree.exactlyOne tree.atMostOne tree.findParts tree.findNode tree.whole canonical.spell canonical.each canonical.separated canonical.putParts canonical.putNamed canonical.putDimension stringOf canonical.putWith
 allWritten = 0
 
 pub every-edge : All Holds edges

@@ -12,7 +12,7 @@ use Rattle.scan.specs.Front.{begins}
 use Rattle.scan.specs.Runs.{Many, none, more}
 use Rattle.kinds.specs.Kinds.{kindPoint, kindLineString, kindPolygon, kindMultiPoint, kindMultiLineString, kindMultiPolygon, kindGeometryCollection, dimXY}
 use Rattle.lists.specs.Lists.{every}
-use Rattle.names.specs.Names.{names, endings}
+use Rattle.names.specs.Names.{names, endings, stringOf}
 use Rattle.names.specs.Strings.{empty}
 use Rattle.lists.proofs.Lists.{every-head, every-tail}
 use Rattle.utf8.specs.Utf8.{firstIll, isUtf8}
@@ -20,7 +20,7 @@ use Rattle.utf8.proofs.Characters.{ascii-whole}
 use Rattle.lists.proofs.Cases.{either}
 use Rattle.lists.specs.Lists.{All}
 use Rattle.tree.specs.Tree.{pointN, lineN, polygonN, multipointN, multilineN, multipolygonN, collectionN, Tree, coordTexts, lineTexts, polygonTexts, nodeTexts, noTexts, texts, Lexeme}
-use Rattle.canonical_text.specs.Canonical.{needsPlus, spell, putSpelled, each, separated, putCoord, putParts, putNamed, stringOf, putDimension, putWith, putPoint, putLine, putPolygon, putGeometry, putNothing, putTree}
+use Rattle.canonical_text.specs.Canonical.{needsPlus, spell, putSpelled, each, separated, putCoord, putParts, putNamed, putDimension, putWith, putPoint, putLine, putPolygon, putGeometry, putNothing, putTree}
 use Rattle.grammar_laws.proofs.Lexemes.{every-join, lexeme-ascii}
 use Rattle.grammar_laws.proofs.TokensBack.{all-flat}
 

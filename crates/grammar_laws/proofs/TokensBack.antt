@@ -15,7 +15,7 @@ use Rattle.names.specs.declared.Name.{Name}
 use Rattle.names.specs.declared.Ending.{Ending}
 use Rattle.kinds.specs.Kinds.{kindPoint, kindLineString, kindPolygon, kindMultiPoint, kindMultiLineString, kindMultiPolygon, kindGeometryCollection, dimXY, dimXYZ, dimXYM, dimXYZM, hasZ, hasM, width}
 use Rattle.lists.specs.Lists.{every}
-use Rattle.names.specs.Names.{names, endings, spellings, lookup, meaning, ending, isEmptyWord}
+use Rattle.names.specs.Names.{names, endings, spellings, lookup, meaning, ending, isEmptyWord, stringOf}
 use Rattle.names.specs.Strings.{empty as emptyWord}
 use Rattle.names.specs.Table.{isKnown}
 use Rattle.names.proofs.Letters.{name-lettered, name-nonempty, ending-lettered, empty-lettered}
@@ -28,7 +28,7 @@ use Rattle.grammar.specs.Tokens.{sortClose, sortComma, sortOf}
 use Rattle.grammar.specs.Grammar.{Out, out, Got, ok, opens, empty, wrong, refusal, andThen, items, closing, addNode, number, thenNumber, ifAsked, coord, pointBody, opened, opening, opener, headerEnding, header, byName, childHead, rootHead, lineBody, parens, lineIn, lineOf, linesBody, polygonIn, polygonOf, polygonsBody, pointIn, pointOf, pointsBody, multi, simple, geometryBy, childOf, collection, geometry, root}
 use Rattle.lists.specs.Lists.{All}
 use Rattle.tree.specs.Tree.{Coord, Node, pointN, lineN, polygonN, multipointN, multilineN, multipolygonN, collectionN, Tree, rowsWith, noRows, pointRows, lineRows, polygonRows, nodeRows, rows, coordTexts, lineTexts, polygonTexts, nodeTexts, noTexts, texts, IsDimension, CoordShape, LineShape, PolygonShape, NodeShape, NoShape, Shape, Lexeme, GoodTree}
-use Rattle.canonical_text.specs.Canonical.{spell, putSpelled, each, separated, putCoord, putParts, putNamed, stringOf, putDimension, putWith, putPoint, putLine, putPolygon, putGeometry, putNothing, putTree}
+use Rattle.canonical_text.specs.Canonical.{spell, putSpelled, each, separated, putCoord, putParts, putNamed, putDimension, putWith, putPoint, putLine, putPolygon, putGeometry, putNothing, putTree}
 use Rattle.tree.specs.TreeIn.{spanText, spanTexts}
 use Rattle.grammar_laws.proofs.Asks.{after, run-bind, run-step, run-size}
 use Rattle.grammar_laws.proofs.Loops.{Loop, first, more, last}

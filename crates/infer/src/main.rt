@@ -6,30 +6,43 @@ use console::put_refusal;
 use console::put_too_long;
 use console::read_input;
 use infer_type::Inferred;
+use kinds::KIND_POINT;
+use names::ENDING_COUNT;
+use names::ENDING_LENGTHS;
+use names::ENDINGS;
+use names::NAME_COUNT;
+use names::NAME_LENGTHS;
+use names::NAMES;
 use printing::flush;
+use printing::least;
 use printing::put;
 
 const OUTPUT_BYTES: usize = 64;
 
+fn put_letters(out: &mut [u8], at: usize, letters: &[u8], length: u8) -> usize {
+    let end = least(length as usize, letters.len());
+    put(out, at, &letters[0..end])
+}
+
 // By infer_type's answers a kind is one of the seven, and a dimension one of the four.
 fn put_kind(out: &mut [u8], kind: u32) -> usize {
-    match kind {
-        kinds::KIND_POINT => put(out, 0, &names::POINT),
-        kinds::KIND_LINESTRING => put(out, 0, &names::LINESTRING),
-        kinds::KIND_POLYGON => put(out, 0, &names::POLYGON),
-        kinds::KIND_MULTIPOINT => put(out, 0, &names::MULTIPOINT),
-        kinds::KIND_MULTILINESTRING => put(out, 0, &names::MULTILINESTRING),
-        kinds::KIND_MULTIPOLYGON => put(out, 0, &names::MULTIPOLYGON),
-        _ => put(out, 0, &names::GEOMETRYCOLLECTION),
+    if kind < KIND_POINT {
+        return 0;
+    }
+    let row = (kind - KIND_POINT) as usize;
+    if row < NAME_COUNT {
+        put_letters(out, 0, &NAMES[row], NAME_LENGTHS[row])
+    } else {
+        0
     }
 }
 
-fn put_dimension(out: &mut [u8], at: usize, dimension: u32) -> usize {
-    match dimension {
-        kinds::DIM_XY => put(out, at, b" XY\n"),
-        kinds::DIM_XYZ => put(out, at, b" XYZ\n"),
-        kinds::DIM_XYM => put(out, at, b" XYM\n"),
-        _ => put(out, at, b" XYZM\n"),
+fn put_ending(out: &mut [u8], at: usize, dimension: u32) -> usize {
+    let row = dimension as usize;
+    if row < ENDING_COUNT {
+        put_letters(out, at, &ENDINGS[row], ENDING_LENGTHS[row])
+    } else {
+        at
     }
 }
 
@@ -37,8 +50,10 @@ fn put_inferred(out: &mut [u8], inferred: Inferred) -> usize {
     if inferred.number != 0 {
         return put_refusal(out, 0, inferred.number, inferred.place, b"\n");
     }
-    let end = put_kind(out, inferred.kind);
-    put_dimension(out, end, inferred.dimension)
+    let behind_kind = put_kind(out, inferred.kind);
+    let behind_plane = put(out, behind_kind, b" XY");
+    let end = put_ending(out, behind_plane, inferred.dimension);
+    put(out, end, b"\n")
 }
 
 fn print_inferred(text: &[u8], out: &mut [u8; OUTPUT_BYTES]) {

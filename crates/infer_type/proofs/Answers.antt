@@ -17,7 +17,7 @@ use Rattle.utf8.specs.Utf8.{isUtf8}
 use Rattle.scan.specs.Bytes.{isAscii}
 use Rattle.words.specs.Words.{startsWord}
 use Rattle.kinds.specs.Kinds.{kindPoint, kindGeometryCollection, dimXY, dimXYZ, dimXYM, dimXYZM}
-use Rattle.names.specs.Strings.{z, m, zm, empty}
+use Rattle.names.specs.Strings.{empty}
 use Rattle.lists.specs.Lists.{every}
 use Rattle.names.specs.Names.{names, lookup, frontRow, front}
 use Rattle.names.specs.declared.Front.{Front}
@@ -27,7 +27,7 @@ use Rattle.infer_type.specs.declared.Inferred.{Inferred}
 use Rattle.refusals.specs.Refusals.{emptyWithoutSpace, neitherParenNorEmpty}
 use Rattle.infer_type.specs.Part.{isTrimmed, isNoParen, isLooked, trimmedAt, endAt, wideAt, looked}
 use Rattle.infer_type.specs.Search.{hasWord, beforeWord, afterWord}
-use Rattle.infer_type.specs.Infer.{accepted, refused, inferredAs, behindName, blank, dimensionIn, withParen, withoutParen, inferLooked, inferType}
+use Rattle.infer_type.specs.Infer.{accepted, refused, inferredAs, behindName, blank, hasEnding, dimensionIn, withParen, withoutParen, inferLooked, inferType}
 use Rattle.infer_type.specs.Answers.{Start, Wide, Looked, Paren, NoParen, Spaced, InRange, Answer, long, ill, wide, neither, noSpace, noName, namedParen, namedEmpty}
 use Rattle.infer_type.proofs.Part.{first-stop, end-fits, start-fits}
 
@@ -64,7 +64,7 @@ front-kind w = kinds w names refl
 
 dimension-small : (l : List ℕ) → dimensionIn l ≤ dimXYZM
 unfolding dimensionIn
-dimension-small l = go (hasWord zm l) (hasWord z l) (hasWord m l)
+dimension-small l = go (hasEnding dimXYZM l) (hasEnding dimXYZ l) (hasEnding dimXYM l)
   where
     go : (hasZM hasZ hasM : Bool) → cond hasZM dimXYZM (cond hasZ dimXYZ (cond hasM dimXYM dimXY)) ≤ dimXYZM
     go true hasZ hasM = omega arith

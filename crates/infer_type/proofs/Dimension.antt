@@ -7,10 +7,19 @@ use Prim.Native.Nat.{ℕ, _+_, _≤_, _<_}
 use lib.ListN.{length, drop}
 use Rattle.words.specs.Words.{startsWord}
 use Rattle.kinds.specs.Kinds.{dimXY, dimXYZ, dimXYM, dimXYZM}
-use Rattle.names.specs.Strings.{z, m, zm}
+use Rattle.names.specs.Names.{endings, stringOf}
 use Rattle.infer_type.specs.Search.{hasWord}
 use Rattle.infer_type.specs.Infer.{dimensionIn}
 use Rattle.infer_type.proofs.Search.{has-in, has-past}
+
+abbrev zm : List ℕ
+zm = stringOf endings dimXYZM
+
+abbrev z : List ℕ
+z = stringOf endings dimXYZ
+
+abbrev m : List ℕ
+m = stringOf endings dimXYM
 
 -- the dimension of what was seen and of the list
 unfoldable pub dimFrom : Bool → Bool → List ℕ → ℕ

@@ -10,7 +10,7 @@ use Rattle.scan.specs.Text.{bytes}
 use Rattle.scan.specs.Runs.{run, firstNot}
 use Rattle.words.specs.Words.{startsWord}
 use Rattle.utf8.specs.Utf8.{table, fits, firstFit, charWidth, walk, firstIll}
-use Rattle.names.specs.Names.{lookup, front}
+use Rattle.names.specs.Names.{stringOf, lookup, front}
 use Rattle.infer_type.specs.declared.Inferred.{Inferred}
 use Rattle.infer_type.specs.Part.{isTrimmed, isNoParen, trimmedAt, endAt, wideAt}
 use Rattle.infer_type.specs.Search.{hasWord, firstWord}
@@ -21,7 +21,7 @@ answers text answer = inferType text ≡ answer
 
 -- what the examples open
 all : ℕ
-unfolding answers run firstNot startsWord table fits firstFit charWidth walk firstIll lookup front trimmedAt endAt wideAt hasWord firstWord dimensionIn withParen withoutParen inferLooked inferType
+unfolding answers run firstNot startsWord table fits firstFit charWidth walk firstIll lookup front trimmedAt endAt wideAt hasWord firstWord stringOf dimensionIn withParen withoutParen inferLooked inferType
 all = 0
 
 -- "`POINTZ EMPTY` is XY, though the reader says XYZ; `POINTEMPTY` is 20."

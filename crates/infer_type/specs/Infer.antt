@@ -1,6 +1,6 @@
 -- What infer_type answers for any bytes (document 01, "infer_type").
 use Prim.Native.Nat.{ℕ}
-use mathlib.Core.Bool.{cond, not}
+use mathlib.Core.Bool.{Bool, cond, not}
 use mathlib.Core.List.{List, [], _∷_}
 use lib.Dec.{ltb}
 use lib.ListN.{length, drop}
@@ -8,8 +8,8 @@ use Rattle.limits.specs.Limits.{textLimit, overLimit}
 use Rattle.scan.specs.Bytes.{space}
 use Rattle.utf8.specs.Utf8.{isUtf8, firstIll}
 use Rattle.kinds.specs.Kinds.{dimXY, dimXYZ, dimXYM, dimXYZM}
-use Rattle.names.specs.Strings.{z, m, zm, empty}
-use Rattle.names.specs.Names.{front}
+use Rattle.names.specs.Strings.{empty}
+use Rattle.names.specs.Names.{endings, stringOf, front}
 use Rattle.names.specs.declared.Front.{Front}
 use Rattle.names.specs.declared.Front.the-variants.{Begun, Other}
 use Rattle.infer_type.specs.declared.Inferred.{Inferred}
@@ -24,9 +24,13 @@ accepted kind dimension = record { number = 0; place = 0; kind = kind; dimension
 abbrev pub refused : ℕ → ℕ → Inferred
 refused number place = record { number = number; place = place; kind = 0; dimension = 0 }
 
+-- does the ending of a dimension stand anywhere in the list
+abbrev pub hasEnding : ℕ → List ℕ → Bool
+hasEnding dimension l = hasWord (stringOf endings dimension) l
+
 -- "`ZM` before `Z` before `M`"; "Found neither `Z` nor `M`: XY."
 unfoldable pub dimensionIn : List ℕ → ℕ
-dimensionIn l = cond (hasWord zm l) dimXYZM (cond (hasWord z l) dimXYZ (cond (hasWord m l) dimXYM dimXY))
+dimensionIn l = cond (hasEnding dimXYZM l) dimXYZM (cond (hasEnding dimXYZ l) dimXYZ (cond (hasEnding dimXYM l) dimXYM dimXY))
 
 -- the name's kind with the dimension, or "unsupported name"
 abbrev pub inferredAs : ℕ → Front → ℕ → Inferred

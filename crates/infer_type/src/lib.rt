@@ -113,11 +113,11 @@ fn dimension_in(part: &[u8]) -> u32
     let mut i = 0;
     while i < part.len() {
         let rest = &part[i..];
-        if words::starts_with_word(rest, &names::ZM) {
+        if names::starts_with_ending(rest, kinds::DIM_XYZM) {
             return kinds::DIM_XYZM;
         }
-        has_z = has_z | words::starts_with_word(rest, &names::Z);
-        has_m = has_m | words::starts_with_word(rest, &names::M);
+        has_z = has_z | names::starts_with_ending(rest, kinds::DIM_XYZ);
+        has_m = has_m | names::starts_with_ending(rest, kinds::DIM_XYM);
         i += 1;
     }
     if has_z {

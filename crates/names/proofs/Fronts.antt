@@ -13,18 +13,16 @@ use Rattle.names.specs.declared.Name.{Name}
 use Rattle.names.specs.declared.Ending.{Ending}
 use Rattle.names.specs.declared.Front.{Front}
 use Rattle.names.specs.declared.Front.the-variants.{Begun, Other}
-use Rattle.kinds.specs.Kinds.{kindLineString}
-use Rattle.names.specs.Strings.{linearring}
 use Rattle.lists.specs.Lists.{every, pairwise}
 use Rattle.names.specs.Names.{names, endings, named, spelling, withEndings, extra, spellings, lookup, meaning, endingRow, ending, frontRow, front, afterName}
-use Rattle.names.specs.Table.{apart, fronts}
+use Rattle.names.specs.Table.{apart, frontStrings, names-apart}
 use Rattle.lists.proofs.Lists.{every-head, every-tail, pairwise-head, pairwise-tail}
 use Rattle.names.proofs.Lookup.{miss}
 
 -- what a word that begins with a name, or with none, means
 abbrev pub byFront : List ℕ → Front → Name
 byFront w (Begun kind n) = afterName kind (ending (drop n w))
-byFront w Other = cond (sameWord w linearring) (Name.Bare kindLineString) Name.Unknown
+byFront w Other = cond (sameWord w (extra .1)) (extra .0) Name.Unknown
 
 module _ (w : List ℕ) where
   abbrev means : List (Name × List ℕ) → Name
@@ -65,31 +63,26 @@ module _ (w : List ℕ) where
   table-cons name rows = append-assoc (withEndings name) (flatMap withEndings rows) (extra ∷ [])
 
   -- where a word begins with a, it is none of the spellings that are apart from a
-  none-apart : (a : List ℕ) → startsWord w a ≡ true → (rows : List (ℕ × List ℕ)) → every (apart a) (fronts rows) ≡ true → means (table rows) ≡ Name.Unknown
+  none-apart : (a : List ℕ) → startsWord w a ≡ true → (rows : List (ℕ × List ℕ)) → every (apart a) (frontStrings rows) ≡ true → means (table rows) ≡ Name.Unknown
   unfolding flatMap lookup
-  none-apart a h [] d = miss sameWord Name.Unknown w extra [] (is-one a linearring (every-head (apart a) linearring [] d) h _ refl)
+  none-apart a h [] d = miss sameWord Name.Unknown w extra [] (is-one a (extra .1) (every-head (apart a) (extra .1) [] d) h _ refl)
   none-apart a h (name ∷ rows) d =
       ap means (table-cons name rows)
-      ∙ pass name endings (table rows) (begins-one a (name .1) (every-head (apart a) (name .1) (fronts rows) d) h _ refl)
-      ∙ none-apart a h rows (every-tail (apart a) (name .1) (fronts rows) d)
+      ∙ pass name endings (table rows) (begins-one a (name .1) (every-head (apart a) (name .1) (frontStrings rows) d) h _ refl)
+      ∙ none-apart a h rows (every-tail (apart a) (name .1) (frontStrings rows) d)
 
   abbrev frontOf : List (ℕ × List ℕ) → Front
   frontOf rows = lookup startsWord Front.Other (map frontRow rows) w
 
   -- of any table of names of which no word begins with two
-  by-front-of : (rows : List (ℕ × List ℕ)) → pairwise apart (fronts rows) ≡ true → means (table rows) ≡ byFront w (frontOf rows)
+  by-front-of : (rows : List (ℕ × List ℕ)) → pairwise apart (frontStrings rows) ≡ true → means (table rows) ≡ byFront w (frontOf rows)
   unfolding flatMap lookup ending
   by-front-of [] d = refl
-  by-front-of (name ∷ rows) d = ap means (table-cons name rows) ∙ go (startsWord w (name .1)) refl (by-front-of rows (pairwise-tail apart (name .1) (fronts rows) d))
+  by-front-of (name ∷ rows) d = ap means (table-cons name rows) ∙ go (startsWord w (name .1)) refl (by-front-of rows (pairwise-tail apart (name .1) (frontStrings rows) d))
     where
       go : (b : Bool) → startsWord w (name .1) ≡ b → means (table rows) ≡ byFront w (frontOf rows) → means (withEndings name ++ table rows) ≡ byFront w (cond b (Front.Begun (name .0) (length (name .1))) (frontOf rows))
-      go true h e = decide name endings (table rows) h (none-apart (name .1) h rows (pairwise-head apart (name .1) (fronts rows) d))
+      go true h e = decide name endings (table rows) h (none-apart (name .1) h rows (pairwise-head apart (name .1) (frontStrings rows) d))
       go false h e = pass name endings (table rows) h ∙ e
-
--- no word begins with two of the names, or with one of them and the extra word
-pub names-apart : pairwise apart (fronts names) ≡ true
-unfolding pairwise every startsWord
-names-apart = refl
 
 pub by-front : (w : List ℕ) → meaning w ≡ byFront w (front w)
 unfolding meaning front spellings

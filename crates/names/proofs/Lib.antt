@@ -1,6 +1,7 @@
 pub mod Lookup
+pub mod Capitals
+pub mod Rows
 pub mod Fronts
-pub mod Initials
 pub mod Table
 pub mod Letters
 pub mod OneOutcome

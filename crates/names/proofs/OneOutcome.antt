@@ -5,7 +5,8 @@ use mathlib.Core.Path.{_≡_}
 use mathlib.Core.List.{List}
 use Rattle.lists.specs.One.{One}
 use Rattle.lists.proofs.One.{one}
-use Rattle.names.specs.Names.{meaning, ending, isEmptyWord, front}
+use Rattle.words.specs.Words.{startsWord}
+use Rattle.names.specs.Names.{endings, stringOf, meaning, ending, isEmptyWord, front}
 
 module _ (w : List ℕ) where
   pub ending_of-one : One (λ r. r ≡ ending w)
@@ -19,3 +20,6 @@ module _ (w : List ℕ) where
 
   pub name_of-one : One (λ r. r ≡ meaning w)
   name_of-one = one
+
+  pub starts_with_ending-one : (dimension : ℕ) → One (λ r. r ≡ startsWord w (stringOf endings dimension))
+  starts_with_ending-one dimension = one

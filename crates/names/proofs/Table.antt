@@ -4,24 +4,14 @@ use Prim.Native.Nat.{ℕ}
 use mathlib.Core.Path.{_≡_, refl, sym, ap, _∙_}
 use mathlib.Core.Bool.{true, false≢true}
 use mathlib.Core.List.{List, flatMap}
-use lib.ListN.{length}
 use Rattle.words.specs.Words.{sameWord}
 use Rattle.names.specs.declared.Name.{Name}
 use Rattle.names.specs.declared.Name.the-variants.{Unknown, Bare, Joined}
-use Rattle.lists.specs.Lists.{every, pairwise}
+use Rattle.lists.specs.Lists.{every}
 use Rattle.names.specs.Names.{spellings, meaning}
-use Rattle.names.specs.Table.{IsSpelling, isKnown, differ}
+use Rattle.names.specs.Table.{IsSpelling, isKnown, each-once}
 use Rattle.lists.proofs.Lists.{every-mem}
 use Rattle.names.proofs.Lookup.{Found, finds, found}
-
-pub count : length spellings ≡ 29
-unfolding spellings flatMap
-count = refl
-
--- (c) no word is two of the spellings
-pub all-differ : pairwise differ spellings ≡ true
-unfolding spellings flatMap pairwise every sameWord
-all-differ = refl
 
 pub all-known : every (λ row. isKnown (row .0)) spellings ≡ true
 unfolding spellings flatMap every
@@ -31,7 +21,7 @@ module _ (w : List ℕ) (name : Name) where
   -- (a) a word that is one of the spellings means what its row says
   pub spelled-means : IsSpelling w name → meaning w ≡ name
   unfolding meaning
-  spelled-means s = finds Name.Unknown w spellings all-differ (name, s .string) (s .row) (s .same)
+  spelled-means s = finds Name.Unknown w spellings each-once (name, s .string) (s .row) (s .same)
 
   -- a spelling means a name
   pub spelled-known : IsSpelling w name → isKnown name ≡ true

@@ -1,18 +1,20 @@
 -- Worked examples of this crate's definitions, by computation.
 use Prim.Native.Nat.{ℕ}
 use mathlib.Core.Path.{_≡_, refl}
-use mathlib.Core.Bool.{Bool, true, false, not}
+use mathlib.Core.Bool.{Bool, true, false, not, _||_}
 use mathlib.Core.List.{List, [], _∷_, _++_, map, flatMap}
-use Rattle.lists.specs.Lists.{passing, bytesThat, every}
+use lib.Dec.{eqb}
+use Rattle.lists.specs.Lists.{passing, bytesThat, every, pairwise}
 use Rattle.scan.specs.Text.{bytes}
 use Rattle.words.specs.Words.{sameWord, startsWord}
 use Rattle.names.specs.declared.Name.{Name}
 use Rattle.names.specs.declared.Ending.{Ending}
 use Rattle.names.specs.declared.Ending.the-variants.{Is, No}
 use Rattle.names.specs.declared.Front.{Front}
-use Rattle.names.specs.Names.{spellings, lookup, meaning, ending, front, isEmptyWord}
-use Rattle.names.specs.Table.{isKnown}
-use Rattle.names.specs.Letters.{isLetter}
+use Rattle.names.specs.declared.Front.the-variants.{Begun, Other}
+use Rattle.names.specs.Names.{names, endings, stringOf, spellings, lookup, meaning, ending, front, isEmptyWord}
+use Rattle.names.specs.Table.{isKnown, apart}
+use Rattle.names.specs.Letters.{isLetter, isCapital, letterAt, hasBoth, packedOf, fourAt}
 
 means : List ℕ → Name → Type 0
 means w name = meaning w ≡ name
@@ -109,6 +111,24 @@ whole : spellings
 unfolding spellings flatMap
 whole = refl
 
+-- a spelling is the beginning of another one only where both are the same name's, as POINT of POINTZ and POINTZ of POINTZM; of LINEARRING none is
+frontKind : Front → ℕ
+frontKind (Begun kind n) = kind
+frontKind Other = 0
+
+clear : Name × List ℕ → Name × List ℕ → Bool
+clear a b = apart (a .1) (b .1) || eqb (frontKind (front (a .1))) (frontKind (front (b .1)))
+
+no-beginning : pairwise clear spellings ≡ true
+unfolding spellings flatMap pairwise every startsWord front lookup frontKind clear
+no-beginning = refl
+
+-- the string beside each kind and dimension, and beside numbers that are none
+strings : (map (stringOf names) (0 ∷ 1 ∷ 2 ∷ 3 ∷ 4 ∷ 5 ∷ 6 ∷ 7 ∷ 8 ∷ []) ≡ [] ∷ bytes "POINT" ∷ bytes "LINESTRING" ∷ bytes "POLYGON" ∷ bytes "MULTIPOINT" ∷ bytes "MULTILINESTRING" ∷ bytes "MULTIPOLYGON" ∷ bytes "GEOMETRYCOLLECTION" ∷ [] ∷ [])
+    × (map (stringOf endings) (0 ∷ 1 ∷ 2 ∷ 3 ∷ 4 ∷ []) ≡ [] ∷ bytes "Z" ∷ bytes "M" ∷ bytes "ZM" ∷ [] ∷ [])
+unfolding stringOf
+strings = (refl, refl)
+
 -- the seven names as fronts, each with its length
 fronts : (front (bytes "pointx") ≡ Front.Begun 1 5)
     × (front (bytes "linestringx") ≡ Front.Begun 2 10)
@@ -146,3 +166,22 @@ endingNumbers = (refl, refl, refl)
 letters : bytesThat isLetter ≡ 65 ∷ 66 ∷ 67 ∷ 68 ∷ 69 ∷ 70 ∷ 71 ∷ 72 ∷ 73 ∷ 74 ∷ 75 ∷ 76 ∷ 77 ∷ 78 ∷ 79 ∷ 80 ∷ 81 ∷ 82 ∷ 83 ∷ 84 ∷ 85 ∷ 86 ∷ 87 ∷ 88 ∷ 89 ∷ 90 ∷ 97 ∷ 98 ∷ 99 ∷ 100 ∷ 101 ∷ 102 ∷ 103 ∷ 104 ∷ 105 ∷ 106 ∷ 107 ∷ 108 ∷ 109 ∷ 110 ∷ 111 ∷ 112 ∷ 113 ∷ 114 ∷ 115 ∷ 116 ∷ 117 ∷ 118 ∷ 119 ∷ 120 ∷ 121 ∷ 122 ∷ []
 unfolding passing
 letters = refl
+
+-- ---- how the code compares them
+-- `A` to `Z` alone
+capitals : bytesThat isCapital ≡ 65 ∷ 66 ∷ 67 ∷ 68 ∷ 69 ∷ 70 ∷ 71 ∷ 72 ∷ 73 ∷ 74 ∷ 75 ∷ 76 ∷ 77 ∷ 78 ∷ 79 ∷ 80 ∷ 81 ∷ 82 ∷ 83 ∷ 84 ∷ 85 ∷ 86 ∷ 87 ∷ 88 ∷ 89 ∷ 90 ∷ []
+unfolding passing
+capitals = refl
+
+-- a small letter as a capital one, any other byte as it is, and a blank behind the word
+placed : (map (letterAt (bytes "zM4")) (0 ∷ 1 ∷ 2 ∷ 3 ∷ []) ≡ bytes "ZM4 ") × (letterAt [] 0 ≡ 32)
+unfolding letterAt
+placed = (refl, refl)
+
+-- both letters, in their order
+both : (hasBoth (bytes "ZM") 90 77 ≡ true) × (hasBoth (bytes "ZM") 90 32 ≡ false) × (hasBoth (bytes "ZM") 32 77 ≡ false) × (hasBoth (bytes "ZM") 77 90 ≡ false) × (hasBoth (bytes "  ") 32 32 ≡ true)
+both = (refl, refl, refl, refl, refl)
+
+-- `POIN`, the first letter lowest: 80 + 79 · 256 + 73 · 65,536 + 78 · 16,777,216
+four : (packedOf 80 79 73 78 ≡ 1313427280) × (fourAt (bytes "A POINT") 2 ≡ 1313427280) × (packedOf 0 0 0 255 ≡ 4278190080) × (packedOf 255 0 0 0 ≡ 255)
+four = (refl, refl, refl, refl)

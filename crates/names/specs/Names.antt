@@ -1,33 +1,45 @@
 -- Which geometry a word names: the tables of names and endings, and what they make of a word.
 use Prim.Native.Nat.{ℕ}
-use mathlib.Core.Bool.{Bool, true, cond}
+use mathlib.Core.Bool.{Bool, cond}
 use mathlib.Core.List.{List, [], _∷_, _++_, map, flatMap}
 use lib.Dec.{eqb}
 use lib.ListN.{length}
-use Rattle.words.specs.Words.{upper, sameWord, startsWord}
+use Rattle.scan.specs.Text.{bytes}
+use Rattle.words.specs.Words.{sameWord, startsWord}
 use Rattle.names.specs.declared.Name.{Name}
 use Rattle.names.specs.declared.Ending.{Ending}
 use Rattle.names.specs.declared.Ending.the-variants.{Is, No}
 use Rattle.names.specs.declared.Front.{Front}
 use Rattle.kinds.specs.Kinds.{kindPoint, kindLineString, kindPolygon, kindMultiPoint, kindMultiLineString, kindMultiPolygon, kindGeometryCollection, dimXY, dimXYZ, dimXYM, dimXYZM}
-use Rattle.names.specs.Strings.{point, linestring, polygon, multipoint, multilinestring, multipolygon, geometrycollection, linearring, none, z, m, zm, empty}
+use Rattle.names.specs.Strings.{empty}
 
+-- ---- the table: seven names, four endings, one extra word
 -- the seven names, each with its kind
 abbrev pub names : List (ℕ × List ℕ)
 names =
-    (kindPoint, point)
-    ∷ (kindLineString, linestring)
-    ∷ (kindPolygon, polygon)
-    ∷ (kindMultiPoint, multipoint)
-    ∷ (kindMultiLineString, multilinestring)
-    ∷ (kindMultiPolygon, multipolygon)
-    ∷ (kindGeometryCollection, geometrycollection)
+    (kindPoint, bytes "POINT")
+    ∷ (kindLineString, bytes "LINESTRING")
+    ∷ (kindPolygon, bytes "POLYGON")
+    ∷ (kindMultiPoint, bytes "MULTIPOINT")
+    ∷ (kindMultiLineString, bytes "MULTILINESTRING")
+    ∷ (kindMultiPolygon, bytes "MULTIPOLYGON")
+    ∷ (kindGeometryCollection, bytes "GEOMETRYCOLLECTION")
     ∷ []
 
--- the four endings, each with its dimension
+-- the four endings, each with its dimension; the first is none at all
 abbrev pub endings : List (ℕ × List ℕ)
-endings = (dimXY, none) ∷ (dimXYZ, z) ∷ (dimXYM, m) ∷ (dimXYZM, zm) ∷ []
+endings = (dimXY, bytes "") ∷ (dimXYZ, bytes "Z") ∷ (dimXYM, bytes "M") ∷ (dimXYZM, bytes "ZM") ∷ []
 
+-- the one extra word: "`LINEARRING` alone means LINESTRING"
+abbrev pub extra : Name × List ℕ
+extra = (Name.Bare kindLineString, bytes "LINEARRING")
+
+-- the string that stands beside a number in a table
+unfoldable pub stringOf : List (ℕ × List ℕ) → ℕ → List ℕ
+stringOf [] n = []
+stringOf (entry ∷ table) n = cond (eqb n (entry .0)) (entry .1) (stringOf table n)
+
+-- ---- the spellings
 -- a name alone, which a header may follow, or with an ending joined: "After a joined name no header is looked for."
 abbrev pub named : ℕ → ℕ → Name
 named kind dim = cond (eqb dim dimXY) (Name.Bare kind) (Name.Joined kind dim)
@@ -39,10 +51,6 @@ spelling name end = (named (name .0) (end .0), name .1 ++ end .1)
 -- "each alone or with `Z`, `M` or `ZM` joined"
 abbrev pub withEndings : ℕ × List ℕ → List (Name × List ℕ)
 withEndings name = map (spelling name) endings
-
--- "`LINEARRING` alone means LINESTRING"
-abbrev pub extra : Name × List ℕ
-extra = (Name.Bare kindLineString, linearring)
 
 -- the seven names with the four endings, and the one extra word
 unfoldable pub spellings : List (Name × List ℕ)
@@ -68,25 +76,8 @@ ending w = lookup sameWord Ending.No (map endingRow endings) w
 abbrev pub frontRow : ℕ × List ℕ → Front × List ℕ
 frontRow name = (Front.Begun (name .0) (length (name .1)), name .1)
 
-abbrev pub frontIn : List (ℕ × List ℕ) → List ℕ → Front
-frontIn rows w = lookup startsWord Front.Other (map frontRow rows) w
-
 unfoldable pub front : List ℕ → Front
-front w = frontIn names w
-
--- may a word whose first letter in upper case is b begin with this name
-abbrev pub mayBegin : ℕ → List ℕ → Bool
-mayBegin b [] = true
-mayBegin b (a ∷ l) = eqb b (upper a)
-
--- the names that such a word may begin with
-abbrev pub initial : ℕ → List (ℕ × List ℕ) → List (ℕ × List ℕ)
-initial b [] = []
-initial b (name ∷ rows) = cond (mayBegin b (name .1)) (name ∷ initial b rows) (initial b rows)
-
--- `M`
-abbrev pub capitalM : ℕ
-capitalM = 77
+front w = lookup startsWord Front.Other (map frontRow names) w
 
 -- "its words, and EMPTY, in any ASCII case"
 abbrev pub isEmptyWord : List ℕ → Bool

@@ -10,8 +10,7 @@ use lib.ListN.{length, getD}
 use Rattle.scan.specs.Bytes.{plus, isPlus}
 use Rattle.scan.specs.Front.{begins}
 use Rattle.names.specs.Letters.{isLetter}
-use Rattle.names.specs.Names.{names, endings}
-use Rattle.canonical_text.specs.Canonical.{needsPlus, stringOf}
+use Rattle.canonical_text.specs.Canonical.{needsPlus}
 use Rattle.pieces.specs.Pieces.{numberPieces}
 
 -- ---- numbers
@@ -45,13 +44,3 @@ module _ (lead : ℕ) {w text : List ℕ} (is : w ≡ text) {b : Bool} (t : b �
   pub number-bare : b ≡ false → numberPieces lead text ≡ (lead ∷ w) ∷ []
   unfolding numberPieces
   number-bare e = rw (← is, ← t, e)
-
--- ---- names of no kind and no dimension
-module _ (k : ℕ) where
-  pub no-ending : (k ≡ 0 → ⊥) → (k ≡ 1 → ⊥) → (k ≡ 2 → ⊥) → (k ≡ 3 → ⊥) → stringOf endings k ≡ []
-  unfolding stringOf
-  no-ending a b d e = rw (ne-eqb k 0 a, ne-eqb k 1 b, ne-eqb k 2 d, ne-eqb k 3 e)
-
-  pub no-name : (k ≡ 1 → ⊥) → (k ≡ 2 → ⊥) → (k ≡ 3 → ⊥) → (k ≡ 4 → ⊥) → (k ≡ 5 → ⊥) → (k ≡ 6 → ⊥) → (k ≡ 7 → ⊥) → stringOf names k ≡ []
-  unfolding stringOf
-  no-name a b d e f g h = rw (ne-eqb k 1 a, ne-eqb k 2 b, ne-eqb k 3 d, ne-eqb k 4 e, ne-eqb k 5 f, ne-eqb k 6 g, ne-eqb k 7 h)

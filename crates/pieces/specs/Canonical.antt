@@ -5,8 +5,8 @@ use mathlib.Core.List.{List, _∷_, _++_}
 use Prim.Native.Nat.{ℕ}
 use lib.Dec.{eqb}
 use Rattle.scan.specs.Bytes.{space, comma}
-use Rattle.names.specs.Names.{names}
-use Rattle.canonical_text.specs.Canonical.{spell, stringOf, putDimension}
+use Rattle.names.specs.Names.{names, stringOf}
+use Rattle.canonical_text.specs.Canonical.{spell, putDimension}
 use Rattle.nodes.specs.declared.Visit.{Visit}
 use Rattle.nodes.specs.Nodes.{isFree}
 use Rattle.shape.specs.Numbers.{textAt}

@@ -6,7 +6,8 @@ use Prim.Native.Nat.{ℕ}
 use Rattle.scan.specs.Text.{bytes}
 use Rattle.scan.specs.Front.{begins}
 use Rattle.store.specs.Rows.{cell}
-use Rattle.canonical_text.specs.Canonical.{spell, stringOf, putDimension}
+use Rattle.names.specs.Names.{stringOf}
+use Rattle.canonical_text.specs.Canonical.{spell, putDimension}
 use Rattle.nodes.specs.declared.Visit.{Visit}
 use Rattle.nodes.specs.Nodes.{frame}
 use Rattle.shape.specs.Numbers.{textAt}

@@ -1,31 +1,21 @@
 // Canonical text that is put in one go: a number, the comma before a child, and a node's name with its dimension.
 ghost use mathlib.Core.Path.{_≡_};
+ghost use Prim.Native.Nat.{_≤_};
+ghost use lib.ListN.{length as size, take};
 ghost use Rattle.scan.specs.Front.{begins};
 ghost use Rattle.names.specs.Letters.{isLetter};
 ghost use Rattle.canonical_text.specs.Canonical.{needsPlus};
 ghost use Rattle.shape.specs.Numbers.{textAt};
+ghost use Rattle.pen.specs.Pen.{Puts};
 ghost use Rattle.pieces.specs.Pieces.{PutsEach, numberPieces, namePieces, dimensionPieces, commaPieces, headPieces};
 use kinds::DIM_XY;
-use kinds::DIM_XYM;
-use kinds::DIM_XYZ;
-use kinds::DIM_XYZM;
-use kinds::KIND_GEOMETRYCOLLECTION;
-use kinds::KIND_LINESTRING;
-use kinds::KIND_MULTILINESTRING;
-use kinds::KIND_MULTIPOINT;
-use kinds::KIND_MULTIPOLYGON;
 use kinds::KIND_POINT;
-use kinds::KIND_POLYGON;
-use names::GEOMETRYCOLLECTION;
-use names::LINESTRING;
-use names::M;
-use names::MULTILINESTRING;
-use names::MULTIPOINT;
-use names::MULTIPOLYGON;
-use names::POINT;
-use names::POLYGON;
-use names::Z;
-use names::ZM;
+use names::ENDING_COUNT;
+use names::ENDING_LENGTHS;
+use names::ENDINGS;
+use names::NAME_COUNT;
+use names::NAME_LENGTHS;
+use names::NAMES;
 use nodes::Visit;
 use pen::Pen;
 
@@ -63,35 +53,45 @@ pub fn put_number(out: &mut [u8], p: Pen, lead: u8, text: &[u8], numbers: &[u32]
     pen::put_led(out, p, lead, w)
 }
 
+// The first `length` of some letters.
+fn put_letters(out: &mut [u8], p: Pen, letters: &[u8], length: usize) -> Pen
+    requires { ⌜ length ≤ size (now letters) ⌝ }
+    ensures { λ r. ⌜ Puts (take length (now (letters .entry))) p (now (out .entry)) r (now (out .exit)) ⌝ }
+{
+    pen::put(out, p, &letters[0..length])
+}
+
+// The name in the table's row of a kind. At most one row is of that kind; the loop isn't left there, so that the compiler writes each name out by itself.
 fn put_name(out: &mut [u8], p: Pen, kind: u32) -> Pen
     ensures { λ r. ⌜ PutsEach (namePieces kind) p (now (out .entry)) r (now (out .exit)) ⌝ }
 {
-    match kind {
-        KIND_POINT => pen::put(out, p, &POINT),
-        KIND_LINESTRING => pen::put(out, p, &LINESTRING),
-        KIND_POLYGON => pen::put(out, p, &POLYGON),
-        KIND_MULTIPOINT => pen::put(out, p, &MULTIPOINT),
-        KIND_MULTILINESTRING => pen::put(out, p, &MULTILINESTRING),
-        KIND_MULTIPOLYGON => pen::put(out, p, &MULTIPOLYGON),
-        KIND_GEOMETRYCOLLECTION => pen::put(out, p, &GEOMETRYCOLLECTION),
-        _ => p,
+    let mut q = p;
+    let mut row = 0;
+    while row < NAME_COUNT {
+        if row as u32 + KIND_POINT == kind {
+            q = put_letters(out, q, &NAMES[row], NAME_LENGTHS[row] as usize);
+        }
+        row += 1;
     }
+    q
 }
 
-// A blank and the ending, if the dimension has one.
+// A blank and the ending, if the dimension has one: the table's first has no letters.
 fn put_dimension(out: &mut [u8], p: Pen, dimension: u32) -> Pen
     ensures { λ r. ⌜ PutsEach (dimensionPieces dimension) p (now (out .entry)) r (now (out .exit)) ⌝ }
 {
     if dimension == DIM_XY {
         return p;
     }
-    let q = pen::put_byte(out, p, b' ');
-    match dimension {
-        DIM_XYZ => pen::put(out, q, &Z),
-        DIM_XYM => pen::put(out, q, &M),
-        DIM_XYZM => pen::put(out, q, &ZM),
-        _ => q,
+    let mut q = pen::put_byte(out, p, b' ');
+    let mut row = 1;
+    while row < ENDING_COUNT {
+        if row as u32 == dimension {
+            q = put_letters(out, q, &ENDINGS[row], ENDING_LENGTHS[row] as usize);
+        }
+        row += 1;
     }
+    q
 }
 
 // The comma before every child but the first.

@@ -13,7 +13,8 @@ use Rattle.store.specs.Answers.{wrote, notWritten, writeAnswer, roomAfter}
 use Rattle.store.specs.Rows.{Row, nodeOver, cell, firsts, rowsIn, spansIn, flatRows}
 use Rattle.tree.specs.Tree.{rowsWith}
 use Rattle.tree.specs.TreeIn.{onFront, asA, times, findText, findRow, exactlyOne, atMostOne, findParts, findNode, whole}
-use Rattle.canonical_text.specs.Canonical.{spell, each, separated, putParts, putNamed, putDimension, stringOf, putWith}
+use Rattle.names.specs.Names.{stringOf}
+use Rattle.canonical_text.specs.Canonical.{spell, each, separated, putParts, putNamed, putDimension, putWith}
 use Rattle.lists.specs.Options.{mapO}
 use Rattle.nodes.specs.Nodes.{isAllowed, childKind}
 use Rattle.shape.specs.Numbers.{textAt, areNumbers}

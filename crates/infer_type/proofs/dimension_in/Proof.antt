@@ -11,10 +11,10 @@ use Rattle.infer_type.proofs.dimension_in.Statement.{statement}
 use Rattle.infer_type.proofs.dimension_in.Tie as tie
 
 abbrev Inv-loop : tie.InvT-loop
-Inv-loop part has-z₀ has-m₀ i₀ t6 t7 t8 has-z has-m i = dimFrom has-z has-m (drop i part) ≡ dimensionIn part
+Inv-loop part has-z₀ has-m₀ i₀ has-z has-m i = dimFrom has-z has-m (drop i part) ≡ dimensionIn part
 
 abbrev μ-loop : tie.MeasureT-loop
-μ-loop part has-z₀ has-m₀ i₀ t6 t7 t8 has-z has-m i = length part - i
+μ-loop part has-z₀ has-m₀ i₀ has-z has-m i = length part - i
 
 loop-holds : tie.Need-loop-holds Inv-loop μ-loop
 loop-holds c = dim-start _
@@ -28,28 +28,19 @@ part-rest-start c = search needs
 part-rest-end : tie.Need-part-rest-end Inv-loop μ-loop
 part-rest-end c = search needs
 
-slice-aggregate-starts-with-word : tie.Need-slice-aggregate-starts-with-word Inv-loop μ-loop
-slice-aggregate-starts-with-word c = search needs
-
-starts-with-word-requires : tie.Need-starts-with-word-requires Inv-loop μ-loop
-starts-with-word-requires c κs = search needs
+starts-with-ending-requires : tie.Need-starts-with-ending-requires Inv-loop μ-loop
+starts-with-ending-requires c κs = search needs
 
 returns : tie.Need-returns Inv-loop μ-loop
 returns c =
-    let at = c .before .before .before .before .before .loop in
-    dim-zm _ _ _ (at .i) (search needs) (starts-tail _ _ (at .i) (sym (c .if1 .taken) ∙ c .before .starts-with-word .ensures)) ∙ at .inv
+    let at = c .before .before .before .before .loop in
+    dim-zm _ _ _ (at .i) (search needs) (starts-tail _ _ (at .i) (sym (c .if1 .taken) ∙ c .before .starts-with-ending .ensures)) ∙ at .inv
 
-slice-aggregate-starts-with-word-2 : tie.Need-slice-aggregate-starts-with-word-2 Inv-loop μ-loop
-slice-aggregate-starts-with-word-2 c = search needs
+starts-with-ending-requires-2 : tie.Need-starts-with-ending-requires-2 Inv-loop μ-loop
+starts-with-ending-requires-2 c κs = search needs
 
-starts-with-word-requires-2 : tie.Need-starts-with-word-requires-2 Inv-loop μ-loop
-starts-with-word-requires-2 c κs = search needs
-
-slice-aggregate-starts-with-word-3 : tie.Need-slice-aggregate-starts-with-word-3 Inv-loop μ-loop
-slice-aggregate-starts-with-word-3 c = search needs
-
-starts-with-word-requires-3 : tie.Need-starts-with-word-requires-3 Inv-loop μ-loop
-starts-with-word-requires-3 c κs = search needs
+starts-with-ending-requires-3 : tie.Need-starts-with-ending-requires-3 Inv-loop μ-loop
+starts-with-ending-requires-3 c κs = search needs
 
 add-i : tie.Need-add-i Inv-loop μ-loop
 add-i c = search needs
@@ -59,12 +50,12 @@ loop-less c = search needs
 
 loop-again : tie.Need-loop-again Inv-loop μ-loop
 loop-again c =
-    let at = c .before .before .before .before .before .before .before .before .before .loop in
-    let test = c .before .before .before .before in
+    let at = c .before .before .before .before .before .before .loop in
+    let test = c .before .before in
     dim-on _ _ _ (at .i) (search needs)
-    (starts-tail _ _ (at .i) (sym (test .if1 .left) ∙ test .before .starts-with-word .ensures))
-    (starts-tail _ _ (at .i) (c .before .before .starts-with-word2 .ensures))
-    (starts-tail _ _ (at .i) (c .starts-with-word3 .ensures))
+    (starts-tail _ _ (at .i) (sym (test .if1 .left) ∙ test .before .starts-with-ending .ensures))
+    (starts-tail _ _ (at .i) (c .before .starts-with-ending2 .ensures))
+    (starts-tail _ _ (at .i) (c .starts-with-ending3 .ensures))
     ∙ at .inv
 
 returns-2 : tie.Need-returns-2 Inv-loop μ-loop
@@ -86,13 +77,10 @@ dimension-in-spec =
     sub-rest
     part-rest-start
     part-rest-end
-    slice-aggregate-starts-with-word
-    starts-with-word-requires
+    starts-with-ending-requires
     returns
-    slice-aggregate-starts-with-word-2
-    starts-with-word-requires-2
-    slice-aggregate-starts-with-word-3
-    starts-with-word-requires-3
+    starts-with-ending-requires-2
+    starts-with-ending-requires-3
     add-i
     loop-less
     loop-again

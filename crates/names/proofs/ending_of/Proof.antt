@@ -1,89 +1,90 @@
--- `names::ending_of` meets its contract: where an ending has been passed over, what is left of the table decides.
+-- `names::ending_of` meets its contract. The loop's invariant: the endings from `row` on decide.
 -- Assumes nothing.
 use borrow.Author.Needs.{needs}
+use native.Mathlib.Omega.{arith}
 use mathlib.Core.Path.{_≡_, sym, _∙_}
-use mathlib.Core.List.{List, map}
-use Prim.Native.Nat.{ℕ}
-use lib.ListN.{drop}
-use Rattle.words.specs.Words.{sameWord}
-use Rattle.names.specs.declared.Ending.{Ending}
-use Rattle.names.specs.Names.{endings, endingRow, lookup, ending}
-use Rattle.names.proofs.Lookup.{miss, hit}
+use mathlib.Core.Logic.{⊎-elim}
+use Prim.Native.Nat.{_-_}
+use Rattle.names.specs.Names.{ending}
+use Rattle.names.proofs.Rows.{ending-row, endingsFrom, endings-start, endings-none, ending-sized, ending-passed, ending-found}
 use Rattle.names.proofs.ending_of.Statement.{statement}
 use Rattle.names.proofs.ending_of.Tie as tie
 
--- the table from its i-th row on decides
-abbrev Left : ℕ → List ℕ → Type 0
-Left i w = lookup sameWord Ending.No (drop i (map endingRow endings)) w ≡ ending w
+abbrev Inv-loop : tie.InvT-loop
+Inv-loop w first second row₀ t5 row = endingsFrom row w ≡ ending w
 
-left1 : (c : tie.Else1) → Left 1 (c .before .before .before .before .args .w .now)
-unfolding ending
-left1 c = sym (miss sameWord Ending.No _ _ _ (sym (c .before .same-word .ensures) ∙ c .if1 .left))
+abbrev μ-loop : tie.MeasureT-loop
+μ-loop w first second row₀ t5 row = 4 - row
 
-left2 : (c : tie.Else2) → Left 2 (c .before .before .before .before .before .before .before .args .w .now)
-left2 c = sym (miss sameWord Ending.No _ _ _ (sym (c .before .same-word2 .ensures) ∙ c .if2 .left)) ∙ left1 (c .before .before .before)
+letter-at-requires : tie.Need-letter-at-requires Inv-loop μ-loop
+letter-at-requires c κs = search needs
 
-left3 : (c : tie.Else3) → Left 3 (c .before .before .before .before .before .before .before .before .before .before .args .w .now)
-left3 c = sym (miss sameWord Ending.No _ _ _ (sym (c .before .same-word3 .ensures) ∙ c .if3 .left)) ∙ left2 (c .before .before .before)
+letter-at-requires-2 : tie.Need-letter-at-requires-2 Inv-loop μ-loop
+letter-at-requires-2 c κs = search needs
 
-left4 : (c : tie.Else4) → Left 4 (c .before .before .before .before .before .before .before .before .before .before .before .before .before .args .w .now)
-left4 c = sym (miss sameWord Ending.No _ _ _ (sym (c .before .same-word4 .ensures) ∙ c .if4 .left)) ∙ left3 (c .before .before .before)
+loop-holds : tie.Need-loop-holds Inv-loop μ-loop
+loop-holds c = endings-start _
 
-slice-aggregate-same-word : tie.Need-slice-aggregate-same-word
-slice-aggregate-same-word c = search needs
+array-read-if1 : tie.Need-array-read-if1 Inv-loop μ-loop
+array-read-if1 c = search needs
 
-same-word-requires : tie.Need-same-word-requires
-same-word-requires c κs = search needs
+cast-if1 : tie.Need-cast-if1 Inv-loop μ-loop
+cast-if1 c = omega (arith, ending-row _ (c .loop-test .taken) .small)
 
-returns : tie.Need-returns
-unfolding ending
-returns c = sym (hit sameWord Ending.No _ _ _ (sym (c .before .same-word .ensures) ∙ c .if1 .taken))
+mul-has-both : tie.Need-mul-has-both Inv-loop μ-loop
+mul-has-both c = search needs
 
-slice-aggregate-same-word-2 : tie.Need-slice-aggregate-same-word-2
-slice-aggregate-same-word-2 c = search needs
+index-1-has-both : tie.Need-index-1-has-both Inv-loop μ-loop
+index-1-has-both c = c .before .loop-test .taken
 
-same-word-requires-2 : tie.Need-same-word-requires-2
-same-word-requires-2 c κs = search needs
+has-both-requires : tie.Need-has-both-requires Inv-loop μ-loop
+has-both-requires c κs = search needs
 
-returns-2 : tie.Need-returns-2
-returns-2 c = sym (hit sameWord Ending.No _ _ _ (sym (c .before .same-word2 .ensures) ∙ c .if2 .taken)) ∙ left1 (c .before .before .before)
+cast-t22 : tie.Need-cast-t22 Inv-loop μ-loop
+cast-t22 c = omega (arith, c .before .before .before .before .loop-test .taken)
 
-slice-aggregate-same-word-3 : tie.Need-slice-aggregate-same-word-3
-slice-aggregate-same-word-3 c = search needs
+returns : tie.Need-returns Inv-loop μ-loop
+returns c =
+    let at = c .before .before .before .before .before in
+    ending-found _ (at .loop .row) (c .before .before .before .before .loop-test .taken) (c .before .before .before .if1 .taken)
+    (rw (← at .before .before .letter-at .ensures, ← at .before .letter-at2 .ensures) (sym (c .before .has-both .ensures) ∙ c .if2 .taken))
+    ∙ at .loop .inv
 
-same-word-requires-3 : tie.Need-same-word-requires-3
-same-word-requires-3 c κs = search needs
+add-row : tie.Need-add-row Inv-loop μ-loop
+add-row c = omega (arith, c .before .loop-test .taken)
 
-returns-3 : tie.Need-returns-3
-returns-3 c = sym (hit sameWord Ending.No _ _ _ (sym (c .before .same-word3 .ensures) ∙ c .if3 .taken)) ∙ left2 (c .before .before .before)
+loop-less : tie.Need-loop-less Inv-loop μ-loop
+loop-less c = omega (arith, c .before .loop-test .taken)
 
-slice-aggregate-same-word-4 : tie.Need-slice-aggregate-same-word-4
-slice-aggregate-same-word-4 c = search needs
+loop-again : tie.Need-loop-again Inv-loop μ-loop
+loop-again c =
+    let at = c .before .before in
+    ⊎-elim
+    (λ x. ending-passed _ (at .loop .row) (c .before .loop-test .taken) (x .0 .taken) (rw (← at .before .before .letter-at .ensures, ← at .before .letter-at2 .ensures) (sym (x .2 .ensures) ∙ x .3 .left)))
+    (λ x. ending-sized _ (at .loop .row) (c .before .loop-test .taken) (x .left))
+    (c .if1 .came)
+    ∙ at .loop .inv
 
-same-word-requires-4 : tie.Need-same-word-requires-4
-same-word-requires-4 c κs = search needs
-
-returns-4 : tie.Need-returns-4
-returns-4 c = sym (hit sameWord Ending.No _ _ _ (sym (c .before .same-word4 .ensures) ∙ c .if4 .taken)) ∙ left3 (c .before .before .before)
-
-returns-5 : tie.Need-returns-5
-unfolding lookup
-returns-5 c = left4 c
+returns-2 : tie.Need-returns-2 Inv-loop μ-loop
+returns-2 c = endings-none _ _ (c .loop-test .left) ∙ c .before .loop .inv
 
 pub ending-of-spec : {M : Type 1} → statement M
 ending-of-spec =
     tie.close
     (tie.spec
-    slice-aggregate-same-word
-    same-word-requires
+    Inv-loop
+    μ-loop
+    letter-at-requires
+    letter-at-requires-2
+    loop-holds
+    array-read-if1
+    cast-if1
+    mul-has-both
+    index-1-has-both
+    has-both-requires
+    cast-t22
     returns
-    slice-aggregate-same-word-2
-    same-word-requires-2
-    returns-2
-    slice-aggregate-same-word-3
-    same-word-requires-3
-    returns-3
-    slice-aggregate-same-word-4
-    same-word-requires-4
-    returns-4
-    returns-5)
+    add-row
+    loop-less
+    loop-again
+    returns-2)

@@ -1,87 +1,93 @@
--- `names::front_of` meets its contract: the first letter leaves two names, one, three, one or none.
+-- `names::front_of` meets its contract. The loop's invariant: the names from `row` on decide.
 -- Assumes nothing.
 use borrow.Author.Needs.{needs}
-use mathlib.Core.Path.{sym, _∙_}
-use Rattle.words.specs.Words.{startsWord}
-use Rattle.names.specs.declared.Front.{Front}
-use Rattle.names.proofs.Lookup.{miss, hit}
-use Rattle.names.proofs.Initials.{by-initial, no-initial, no-front}
+use native.Mathlib.Omega.{arith}
+use mathlib.Core.Path.{_≡_, sym, _∙_}
+use Prim.Native.Nat.{_-_}
+use Rattle.names.specs.Names.{front}
+use Rattle.names.proofs.Rows.{name-row, namesFrom, names-start, names-none, no-front, passed-either, name-found, other-first}
 use Rattle.names.proofs.front_of.Statement.{statement}
 use Rattle.names.proofs.front_of.Tie as tie
 
-returns : tie.Need-returns
+abbrev Inv-loop : tie.InvT-loop
+Inv-loop w first row₀ t6 row = namesFrom row w ≡ front w
+
+abbrev μ-loop : tie.MeasureT-loop
+μ-loop w first row₀ t6 row = 7 - row
+
+returns : tie.Need-returns Inv-loop μ-loop
 returns c = no-front _ (c .if1 .taken)
 
-shared-slice-read-to-upper : tie.Need-shared-slice-read-to-upper
-shared-slice-read-to-upper c = search needs
+shared-slice-read-first : tie.Need-shared-slice-read-first Inv-loop μ-loop
+shared-slice-read-first c = search needs
 
-to-upper-requires : tie.Need-to-upper-requires
-to-upper-requires c κs = search needs
+loop-holds : tie.Need-loop-holds Inv-loop μ-loop
+loop-holds c = names-start _
 
-slice-aggregate-starts-with-word : tie.Need-slice-aggregate-starts-with-word
-slice-aggregate-starts-with-word c = search needs
+mul-letters : tie.Need-mul-letters Inv-loop μ-loop
+mul-letters c = search needs
 
-starts-with-word-requires : tie.Need-starts-with-word-requires
-starts-with-word-requires c κs = search needs
+index-1-letters : tie.Need-index-1-letters Inv-loop μ-loop
+index-1-letters c = c .loop-test .taken
 
-returns-2 : tie.Need-returns-2
-returns-2 c = sym (hit startsWord Front.Other _ _ _ (sym (c .before .starts-with-word .ensures) ∙ c .if2 .taken)) ∙ by-initial _ 80 (search needs) (sym (c .before .before .before .match .keys1) ∙ c .before .before .before .before .to-upper .ensures)
+first-of-requires : tie.Need-first-of-requires Inv-loop μ-loop
+first-of-requires c κs = search needs
 
-slice-aggregate-begun : tie.Need-slice-aggregate-begun
-slice-aggregate-begun c = search needs
+array-read-length : tie.Need-array-read-length Inv-loop μ-loop
+array-read-length c = c .before .before .before .loop-test .taken
 
-begun-requires : tie.Need-begun-requires
-begun-requires c κs = search needs
+cast-length : tie.Need-cast-length Inv-loop μ-loop
+cast-length c = omega (arith, name-row _ (c .before .before .before .loop-test .taken) .small)
 
-slice-aggregate-begun-2 : tie.Need-slice-aggregate-begun-2
-slice-aggregate-begun-2 c = search needs
+has-letters-requires : tie.Need-has-letters-requires Inv-loop μ-loop
+has-letters-requires c κs = let row = name-row _ (c .before .before .before .before .loop-test .taken) in (row .inside, row .capital)
 
-begun-requires-2 : tie.Need-begun-requires-2
-begun-requires-2 c κs = search needs
+cast-t30 : tie.Need-cast-t30 Inv-loop μ-loop
+cast-t30 c = omega (arith, c .before .before .before .before .before .before .loop-test .taken)
 
-multi-front-requires : tie.Need-multi-front-requires
-multi-front-requires c κs = search needs
+add-t31 : tie.Need-add-t31 Inv-loop μ-loop
+add-t31 c = omega (arith, c .before .before .before .before .before .before .loop-test .taken)
 
-slice-aggregate-begun-3 : tie.Need-slice-aggregate-begun-3
-slice-aggregate-begun-3 c = search needs
+returns-2 : tie.Need-returns-2 Inv-loop μ-loop
+returns-2 c = name-found _ _ (c .before .before .before .before .before .before .loop-test .taken) (sym (c .before .has-letters .ensures) ∙ c .if3 .taken) ∙ c .before .before .before .before .before .before .before .loop .inv
 
-begun-requires-3 : tie.Need-begun-requires-3
-begun-requires-3 c κs = search needs
+add-row : tie.Need-add-row Inv-loop μ-loop
+add-row c = omega (arith, c .before .before .before .loop-test .taken)
 
-returns-3 : tie.Need-returns-3
-returns-3 c = c .begun .ensures ∙ sym (miss startsWord Front.Other _ _ _ (sym (c .before .before .before .starts-with-word .ensures) ∙ c .before .before .if2 .left)) ∙ by-initial _ 80 (search needs) (sym (c .before .before .before .before .before .match .keys1) ∙ c .before .before .before .before .before .before .to-upper .ensures)
+loop-less : tie.Need-loop-less Inv-loop μ-loop
+loop-less c = omega (arith, c .before .before .before .loop-test .taken)
 
-returns-4 : tie.Need-returns-4
-returns-4 c = c .begun2 .ensures ∙ by-initial _ 76 (search needs) (sym (c .before .before .match .keys2) ∙ c .before .before .before .to-upper .ensures)
+loop-again : tie.Need-loop-again Inv-loop μ-loop
+loop-again c =
+    let at = c .before .before .before .before in
+    let h = c .before .before .before .loop-test .taken in
+    passed-either _ (at .loop .row) h (c .if2 .came)
+    (λ x. sym (x .2 .ensures) ∙ x .3 .left)
+    (λ x. other-first _ (at .loop .row) h (omega (arith, c .before .before .before .before .before .before .if1 .left)) (c .before .before .before .before .before .before .before .shared-slice-known .given 0 .fits) (λ e. x .left (c .before .first-of .ensures ∙ e)))
+    ∙ at .loop .inv
 
-returns-5 : tie.Need-returns-5
-returns-5 c = c .multi-front .ensures ∙ by-initial _ 77 (search needs) (sym (c .before .match .keys3) ∙ c .before .before .to-upper .ensures)
-
-returns-6 : tie.Need-returns-6
-returns-6 c = c .begun3 .ensures ∙ by-initial _ 71 (search needs) (sym (c .before .before .match .keys4) ∙ c .before .before .before .to-upper .ensures)
-
-returns-7 : tie.Need-returns-7
-returns-7 c = let rest = c .match .rest in no-initial _ _ (rest .0 .0 .0 .1) (rest .0 .0 .1) (rest .0 .1) (rest .1) ∙ by-initial _ _ (search needs) (c .before .to-upper .ensures)
+returns-3 : tie.Need-returns-3 Inv-loop μ-loop
+returns-3 c = names-none _ _ (c .loop-test .left) ∙ c .before .loop .inv
 
 pub front-of-spec : {M : Type 1} → statement M
 front-of-spec =
     tie.close
     (tie.spec
+    Inv-loop
+    μ-loop
     returns
-    shared-slice-read-to-upper
-    to-upper-requires
-    slice-aggregate-starts-with-word
-    starts-with-word-requires
+    shared-slice-read-first
+    loop-holds
+    mul-letters
+    index-1-letters
+    first-of-requires
+    array-read-length
+    cast-length
+    has-letters-requires
+    cast-t30
+    add-t31
     returns-2
-    slice-aggregate-begun
-    begun-requires
-    slice-aggregate-begun-2
-    begun-requires-2
-    multi-front-requires
-    slice-aggregate-begun-3
-    begun-requires-3
-    returns-3
-    returns-4
-    returns-5
-    returns-6
-    returns-7)
+    add-row
+    loop-less
+    loop-again
+    returns-3)

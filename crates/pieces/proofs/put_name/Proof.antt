@@ -1,140 +1,82 @@
--- `pieces::put_name` meets its contract: a kind at a time.
+-- `pieces::put_name` meets its contract. The loop's invariant: what the names from `row` on put is still to be put.
 -- Assumes nothing.
 use borrow.Author.Needs.{needs}
-use Rattle.canonical_text.specs.Canonical.{stringOf}
-use Rattle.pieces.specs.Pieces.{wordPieces, namePieces}
-use Rattle.pieces.proofs.Canonical.{no-name}
-use Rattle.pieces.proofs.Pieces.{puts-none, puts-one, puts-as}
+use native.Mathlib.Omega.{arith}
+use mathlib.Core.Logic.{⊎-elim}
+use Prim.Native.Nat.{_-_}
+use Rattle.names.proofs.Rows.{name-row}
+use Rattle.pieces.specs.Pieces.{namePieces}
+use Rattle.pieces.proofs.Tables.{StillPuts, still-all, still-as, still-put, still-none, namesLeft, names-all, names-none, name-put, name-not}
 use Rattle.pieces.proofs.put_name.Statement.{statement}
 use Rattle.pieces.proofs.put_name.Tie as tie
 
-slice-aggregate-put : tie.Need-slice-aggregate-put
-slice-aggregate-put c = search needs
+abbrev Inv-loop : tie.InvT-loop
+Inv-loop out₀ kind q₀ row₀ t6 out q row = StillPuts (namePieces kind) (namesLeft row kind) q₀ out₀ q out
 
-put-requires : tie.Need-put-requires
-put-requires c κs = search needs
+abbrev μ-loop : tie.MeasureT-loop
+μ-loop out₀ kind q₀ row₀ t6 out q row = 7 - row
 
-slice-aggregate-put-2 : tie.Need-slice-aggregate-put-2
-slice-aggregate-put-2 c = search needs
+loop-holds : tie.Need-loop-holds Inv-loop μ-loop
+loop-holds c = still-all (names-all _)
 
-put-requires-2 : tie.Need-put-requires-2
-put-requires-2 c κs = search needs
+cast-if1 : tie.Need-cast-if1 Inv-loop μ-loop
+cast-if1 c = omega (arith, c .loop-test .taken)
 
-slice-aggregate-put-3 : tie.Need-slice-aggregate-put-3
-slice-aggregate-put-3 c = search needs
+add-if1 : tie.Need-add-if1 Inv-loop μ-loop
+add-if1 c = omega (arith, c .loop-test .taken)
 
-put-requires-3 : tie.Need-put-requires-3
-put-requires-3 c κs = search needs
+mul-put-letters : tie.Need-mul-put-letters Inv-loop μ-loop
+mul-put-letters c = search needs
 
-slice-aggregate-put-4 : tie.Need-slice-aggregate-put-4
-slice-aggregate-put-4 c = search needs
+index-1-put-letters : tie.Need-index-1-put-letters Inv-loop μ-loop
+index-1-put-letters c = c .before .before .loop-test .taken
 
-put-requires-4 : tie.Need-put-requires-4
-put-requires-4 c κs = search needs
+array-read-put-letters : tie.Need-array-read-put-letters Inv-loop μ-loop
+array-read-put-letters c = c .before .before .before .before .loop-test .taken
 
-slice-aggregate-put-5 : tie.Need-slice-aggregate-put-5
-slice-aggregate-put-5 c = search needs
+cast-put-letters : tie.Need-cast-put-letters Inv-loop μ-loop
+cast-put-letters c = omega (arith, name-row _ (c .before .before .before .before .loop-test .taken) .small)
 
-put-requires-5 : tie.Need-put-requires-5
-put-requires-5 c κs = search needs
+put-letters-requires : tie.Need-put-letters-requires Inv-loop μ-loop
+put-letters-requires c κs = name-row _ (c .before .before .before .before .loop-test .taken) .inside
 
-slice-aggregate-put-6 : tie.Need-slice-aggregate-put-6
-slice-aggregate-put-6 c = search needs
+add-row : tie.Need-add-row Inv-loop μ-loop
+add-row c = omega (arith, c .before .loop-test .taken)
 
-put-requires-6 : tie.Need-put-requires-6
-put-requires-6 c κs = search needs
+loop-less : tie.Need-loop-less Inv-loop μ-loop
+loop-less c = omega (arith, c .before .loop-test .taken)
 
-slice-aggregate-put-7 : tie.Need-slice-aggregate-put-7
-slice-aggregate-put-7 c = search needs
+loop-again : tie.Need-loop-again Inv-loop μ-loop
+loop-again c =
+    let at = c .before .before .loop in
+    let h = c .before .loop-test .taken in
+    ⊎-elim
+    (λ x. rw (x .7, x .8) (still-put (still-as (name-put (at .row) _ h (x .0 .taken)) (at .inv)) (x .4 .ensures) (x .4 .kept .0)))
+    (λ x. rw (x .1, x .2) (still-as (name-not (at .row) _ h (x .0 .left)) (at .inv)))
+    (c .if1 .came)
 
-put-requires-7 : tie.Need-put-requires-7
-put-requires-7 c κs = search needs
+same-length : tie.Need-same-length Inv-loop μ-loop
+same-length c = c .before .loop .inv .same
 
-same-length : tie.Need-same-length
-same-length c = search needs
-
-returns : tie.Need-returns
-unfolding namePieces wordPieces stringOf
-returns c = puts-as (puts-one (c .before .before .put .ensures)) (rw (c .before .before .before .before .before .match .keys1))
-
-same-length-2 : tie.Need-same-length-2
-same-length-2 c = search needs
-
-returns-2 : tie.Need-returns-2
-unfolding namePieces wordPieces stringOf
-returns-2 c = puts-as (puts-one (c .before .before .put2 .ensures)) (rw (c .before .before .before .before .before .match .keys2))
-
-same-length-3 : tie.Need-same-length-3
-same-length-3 c = search needs
-
-returns-3 : tie.Need-returns-3
-unfolding namePieces wordPieces stringOf
-returns-3 c = puts-as (puts-one (c .before .before .put3 .ensures)) (rw (c .before .before .before .before .before .match .keys3))
-
-same-length-4 : tie.Need-same-length-4
-same-length-4 c = search needs
-
-returns-4 : tie.Need-returns-4
-unfolding namePieces wordPieces stringOf
-returns-4 c = puts-as (puts-one (c .before .before .put4 .ensures)) (rw (c .before .before .before .before .before .match .keys4))
-
-same-length-5 : tie.Need-same-length-5
-same-length-5 c = search needs
-
-returns-5 : tie.Need-returns-5
-unfolding namePieces wordPieces stringOf
-returns-5 c = puts-as (puts-one (c .before .before .put5 .ensures)) (rw (c .before .before .before .before .before .match .keys5))
-
-same-length-6 : tie.Need-same-length-6
-same-length-6 c = search needs
-
-returns-6 : tie.Need-returns-6
-unfolding namePieces wordPieces stringOf
-returns-6 c = puts-as (puts-one (c .before .before .put6 .ensures)) (rw (c .before .before .before .before .before .match .keys6))
-
-same-length-7 : tie.Need-same-length-7
-same-length-7 c = search needs
-
-returns-7 : tie.Need-returns-7
-unfolding namePieces wordPieces stringOf
-returns-7 c = puts-as (puts-one (c .before .before .put7 .ensures)) (rw (c .before .before .before .before .before .match .keys7))
-
-returns-8 : tie.Need-returns-8
-unfolding namePieces wordPieces
-returns-8 c =
-    let r = c .match .rest in
-    puts-as (puts-none _ _) (rw (no-name _ (r .0 .0 .0 .0 .0 .0 .1) (r .0 .0 .0 .0 .0 .1) (r .0 .0 .0 .0 .1) (r .0 .0 .0 .1) (r .0 .0 .1) (r .0 .1) (r .1)))
+returns : tie.Need-returns Inv-loop μ-loop
+returns c = still-none (still-as (names-none _ _ (c .loop-test .left)) (c .before .loop .inv))
 
 pub put-name-spec : {M : Type 1} → statement M
 put-name-spec =
     tie.close
     (tie.spec
-    slice-aggregate-put
-    put-requires
-    slice-aggregate-put-2
-    put-requires-2
-    slice-aggregate-put-3
-    put-requires-3
-    slice-aggregate-put-4
-    put-requires-4
-    slice-aggregate-put-5
-    put-requires-5
-    slice-aggregate-put-6
-    put-requires-6
-    slice-aggregate-put-7
-    put-requires-7
+    Inv-loop
+    μ-loop
+    loop-holds
+    cast-if1
+    add-if1
+    mul-put-letters
+    index-1-put-letters
+    array-read-put-letters
+    cast-put-letters
+    put-letters-requires
+    add-row
+    loop-less
+    loop-again
     same-length
-    returns
-    same-length-2
-    returns-2
-    same-length-3
-    returns-3
-    same-length-4
-    returns-4
-    same-length-5
-    returns-5
-    same-length-6
-    returns-6
-    same-length-7
-    returns-7
-    returns-8)
+    returns)

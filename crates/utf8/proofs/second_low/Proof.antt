@@ -5,7 +5,8 @@ use Prim.Native.Nat.{ℕ}
 use native.Mathlib.Omega.{arith}
 use Rattle.utf8.specs.Utf8.{table}
 use Rattle.utf8.specs.Leads.{rowOf, secondOf}
-use Rattle.utf8.proofs.Leads.{allFrom, but-two}
+use Rattle.lists.proofs.Ranges.{allFrom}
+use Rattle.utf8.proofs.Leads.{but-two}
 use Rattle.utf8.proofs.second_low.Statement.{statement}
 use Rattle.utf8.proofs.second_low.Tie as tie
 

@@ -4,7 +4,8 @@ use mathlib.Core.Path.{refl}
 use native.Mathlib.Omega.{arith}
 use Rattle.utf8.specs.Utf8.{table}
 use Rattle.utf8.specs.Leads.{rowOf, widthOf}
-use Rattle.utf8.proofs.Leads.{allFrom, over}
+use Rattle.lists.proofs.Ranges.{allFrom}
+use Rattle.utf8.proofs.Leads.{over}
 use Rattle.utf8.proofs.width_of.Statement.{statement}
 use Rattle.utf8.proofs.width_of.Tie as tie
 
