@@ -145,7 +145,7 @@ static void test_rooms(void)
     uint64_t answer[DOORHOLLOW_ANSWER_PLACES];
 
     expect(doorhollow_enough_rows(0) == 0 && doorhollow_enough_rows(27) == 13, "enough_rows: half of them");
-    expect(doorhollow_enough_rows(DOORHOLLOW_TEXT_LIMIT) == 32767, "enough_rows: of the longest text");
+    expect(doorhollow_enough_rows(DOORHOLLOW_TEXT_LIMIT) == 2097152, "enough_rows: of the longest text");
     doorhollow_read(bytes(text), strlen(text), nodes, 13 * DOORHOLLOW_NODE_WIDTH, numbers, 13 * DOORHOLLOW_NUMBER_WIDTH, answer);
     expect(is(answer, DOORHOLLOW_OK, 0, 5, 8), "read: with enough rows");
 }
@@ -186,6 +186,60 @@ static void test_stored(void)
     wrong[18] = 'x';
     doorhollow_read_stored_1(wrong, sizeof wrong, nodes, 0, numbers, 0, answer);
     expect(is(answer, DOORHOLLOW_ILL_FORMED_STORE, 0, 0, 0), "read_stored: no tree, before any row is asked for");
+}
+
+/* The same tree in version 2, and each version's entry on the other's bytes. */
+static void test_stored_2(void)
+{
+    static const uint8_t kept[] = {1, 0, 9, 2, 0, 0, 0, 1, 0, 0, 0, 2, 2, 0, 6, 1, 0, 0, 0, 0, 1, 3, 0, 1, '1', 3, 0, 1, '2'};
+    static const uint8_t other[] = {1, 0, 5, 1, 0, 1, 0, 2, 2, 0, 4, 1, 0, 0, 1, 3, 0, 1, '1', 3, 0, 1, '2'};
+    static const uint8_t headless[] = {1, 255, 255, 2};
+    const char *text = "POINT(1 +2)";
+    uint32_t nodes[3], numbers[4];
+    uint64_t answer[DOORHOLLOW_ANSWER_PLACES];
+    uint8_t out[sizeof kept + 1];
+
+    doorhollow_read(bytes(text), strlen(text), nodes, 3, numbers, 4, answer);
+    doorhollow_write_stored_2(bytes(text), strlen(text), nodes, 3, numbers, 4, out, sizeof out, answer);
+    expect(is(answer, DOORHOLLOW_OK, 0, sizeof kept, 0), "write_stored_2: a point");
+    expect(memcmp(out, kept, sizeof kept) == 0 && out[sizeof kept] == 0, "write_stored_2: its bytes, then zero");
+    doorhollow_write_stored_2(bytes(text), strlen(text), nodes, 3, numbers, 4, out, sizeof kept - 1, answer);
+    expect(is(answer, DOORHOLLOW_NO_ROOM, 0, 0, 0) && is_zero(out, sizeof kept - 1), "write_stored_2: no room");
+    doorhollow_read_stored_2(kept, sizeof kept, nodes, 3, numbers, 4, answer);
+    expect(is(answer, DOORHOLLOW_OK, 0, 1, 2), "read_stored_2: a point");
+    expect(numbers[0] == 24 && numbers[1] == 1 && numbers[2] == 28 && numbers[3] == 1, "read_stored_2: spans in the bytes");
+    doorhollow_read_stored_2(kept, sizeof kept, nodes, 2, numbers, 4, answer);
+    expect(is(answer, DOORHOLLOW_NO_NODE_ROW, 12, 0, 0), "read_stored_2: no node row");
+    doorhollow_read_stored_1(kept, sizeof kept, nodes, 3, numbers, 4, answer);
+    expect(is(answer, DOORHOLLOW_UNKNOWN_VERSION, 3, 0, 0) && is_zero(numbers, sizeof numbers), "read_stored_1: version 2");
+    doorhollow_read_stored_2(other, sizeof other, nodes, 3, numbers, 4, answer);
+    expect(is(answer, DOORHOLLOW_UNKNOWN_VERSION, 3, 0, 0), "read_stored_2: version 1");
+    doorhollow_read_stored_1(headless, sizeof headless, nodes, 3, numbers, 4, answer);
+    expect(is(answer, DOORHOLLOW_UNKNOWN_VERSION, 3, 0, 0), "read_stored_1: version 2, whatever its length");
+    doorhollow_read_stored_2(headless, sizeof headless, nodes, 3, numbers, 4, answer);
+    expect(is(answer, DOORHOLLOW_FAULTY_FIELD, 0, 0, 0), "read_stored_2: a head of another length");
+}
+
+/* The token from a place on, and the place to ask from next. */
+static void test_token(size_t from, size_t next, uint64_t sort, uint64_t place, uint64_t start, uint64_t length)
+{
+    const char *text = "POINT (+1,4x)";
+    uint64_t answer[DOORHOLLOW_ANSWER_PLACES];
+
+    expect(doorhollow_token(bytes(text), strlen(text), from, answer) == next, "token: where the next one is asked for");
+    expect(is(answer, sort, place, start, length), "token: sort, place, start, length");
+}
+
+static void test_tokens(void)
+{
+    test_token(0, 6, DOORHOLLOW_WORD, 0, 0, 5);
+    test_token(5, 7, DOORHOLLOW_PAREN_OPEN, 6, 0, 0);
+    test_token(7, 9, DOORHOLLOW_NUMBER_TOKEN, 7, 8, 1);
+    test_token(9, 10, DOORHOLLOW_COMMA, 9, 0, 0);
+    test_token(10, 12, DOORHOLLOW_BAD_NUMBER, 10, 0, 0);
+    test_token(12, 13, DOORHOLLOW_PAREN_CLOSE, 12, 0, 0);
+    test_token(13, 13, DOORHOLLOW_NO_TOKEN, 13, 0, 0);
+    test_token(99, 13, DOORHOLLOW_NO_TOKEN, 13, 0, 0);
 }
 
 static void test_strict(void)
@@ -280,6 +334,8 @@ int main(void)
     test_numbers();
     test_rooms();
     test_stored();
+    test_stored_2();
+    test_tokens();
     test_strict();
     test_boxes();
     test_box_refusals();

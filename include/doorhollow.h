@@ -28,11 +28,12 @@ extern "C" {
 #endif
 
 /* The most bytes that a text may have, and the most collections that may be open. */
-#define DOORHOLLOW_TEXT_LIMIT 65535
+#define DOORHOLLOW_TEXT_LIMIT 4194304
 #define DOORHOLLOW_DEPTH_LIMIT 32
 
-/* The most bytes that a stored tree of version 1 may have. */
+/* The most bytes that a stored tree may have, of version 1 and of version 2. */
 #define DOORHOLLOW_STORED_1_LIMIT 1048576
+#define DOORHOLLOW_STORED_2_LIMIT 67108864
 
 /* The places of an answer, and how many there are. */
 #define DOORHOLLOW_ANSWER_PLACES 4
@@ -45,6 +46,10 @@ extern "C" {
 #define DOORHOLLOW_ROW 2
 #define DOORHOLLOW_INFERRED_KIND 2 /* infer_type */
 #define DOORHOLLOW_INFERRED_DIMENSION 3
+#define DOORHOLLOW_TOKEN_SORT 0  /* token, in the place of a number */
+#define DOORHOLLOW_TOKEN_PLACE 1
+#define DOORHOLLOW_TOKEN_START 2
+#define DOORHOLLOW_TOKEN_LENGTH 3
 
 /*
  * A node is a row of three: kind, dimension, parts. A row's children follow it.
@@ -89,6 +94,15 @@ extern "C" {
 #define DOORHOLLOW_MULTIPOLYGON 6
 #define DOORHOLLOW_GEOMETRYCOLLECTION 7
 
+/* Sorts of tokens. */
+#define DOORHOLLOW_NO_TOKEN 0 /* NUL, or the end of the text */
+#define DOORHOLLOW_BAD_NUMBER 1
+#define DOORHOLLOW_COMMA 2
+#define DOORHOLLOW_PAREN_CLOSE 3
+#define DOORHOLLOW_PAREN_OPEN 4
+#define DOORHOLLOW_NUMBER_TOKEN 5
+#define DOORHOLLOW_WORD 6
+
 /* Dimensions. A coordinate has 2, 3, 3 or 4 numbers. */
 #define DOORHOLLOW_XY 0
 #define DOORHOLLOW_XYZ 1
@@ -98,7 +112,7 @@ extern "C" {
 /* The refusals. Beside each stands its message, for 7 to 21, 28 and 29 that of the Rust crate wkt; 19 names the prefix after it. */
 #define DOORHOLLOW_OK 0
 /* tools/refusals: from here on */
-#define DOORHOLLOW_TEXT_TOO_LONG 1 /* More bytes than a text (65,535) or a stored tree (1,048,576) may have */
+#define DOORHOLLOW_TEXT_TOO_LONG 1 /* More bytes than may be read; the place is the limit */
 #define DOORHOLLOW_ILL_FORMED_UTF8 2 /* The text is not well-formed UTF-8 */
 #define DOORHOLLOW_NO_NODE_ROW 3 /* No room for another node */
 #define DOORHOLLOW_NO_NUMBER_ROW 4 /* No room for another number */
@@ -225,6 +239,35 @@ void doorhollow_read_stored_1(const uint8_t *bytes, size_t byte_count,
                               uint64_t answer[DOORHOLLOW_ANSWER_PLACES]);
 
 /*
+ * The same of version 2, whose counts and parts have four bytes each, so that
+ * there are 12 bytes, 9 for each node, and 3 for each number with those of its
+ * text. The length of a field still has two.
+ *
+ * Refusals 22, then 27 (a count over 4,294,967,295, a number's text over 65,535
+ * bytes, or more than DOORHOLLOW_STORED_2_LIMIT bytes in all), then 23, with
+ * place 0.
+ */
+void doorhollow_write_stored_2(const uint8_t *text, size_t text_length,
+                               const uint32_t *nodes, size_t node_places,
+                               const uint32_t *numbers, size_t number_places,
+                               uint8_t *out, size_t room,
+                               uint64_t answer[DOORHOLLOW_ANSWER_PLACES]);
+
+/*
+ * Reads stored bytes of version 2, as doorhollow_read_stored_1 reads those of
+ * version 1. byte_count / 9 node rows and byte_count / 3 number rows are
+ * enough; bytes 4 to 7 tell how many nodes there are, and 8 to 11 how many
+ * numbers.
+ *
+ * Byte 3 of stored bytes is their version. Each of the two entries knows its
+ * own only: on bytes of the other version it answers 26 at 3.
+ */
+void doorhollow_read_stored_2(const uint8_t *bytes, size_t byte_count,
+                              uint32_t *nodes, size_t node_places,
+                              uint32_t *numbers, size_t number_places,
+                              uint64_t answer[DOORHOLLOW_ANSWER_PLACES]);
+
+/*
  * Checks a store, lent as for doorhollow_write, by the strict rules: A, a line
  * string that isn't empty has 2 coordinates or more; B, a ring that isn't empty
  * has 4 or more; C, it ends with the number texts that it starts with; D, a
@@ -268,6 +311,18 @@ void doorhollow_boxes(const uint8_t *text, size_t text_length,
  */
 void doorhollow_infer_type(const uint8_t *text, size_t text_length,
                            uint64_t answer[DOORHOLLOW_ANSWER_PLACES]);
+
+/*
+ * The token that stands at `from` or behind the blanks there, as the reader sees
+ * it. Any place may be asked for; behind the text there is no token.
+ *
+ * answer: sort, place, start, length. A number's text starts behind a `+` that
+ * is dropped, so that its start may be behind its place; start and length are 0
+ * for every sort but a number and a word. There is no refusal.
+ * Returns the place to ask from for the next token.
+ */
+size_t doorhollow_token(const uint8_t *text, size_t text_length, size_t from,
+                        uint64_t answer[DOORHOLLOW_ANSWER_PLACES]);
 
 #ifdef __cplusplus
 }

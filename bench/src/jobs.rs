@@ -1,8 +1,8 @@
 //! What is measured. All of it goes through one function, which callgrind is told to
 //! count in, so that nothing around it counts.
 
-use crate::library;
-use crate::samples::{Sample, AMPLE_NODES, AMPLE_NUMBERS};
+use crate::library::{self, Version};
+use crate::samples::{ample_nodes, ample_numbers, Part, Sample};
 use std::hint::black_box;
 use std::str::FromStr;
 use wkt::Wkt;
@@ -25,9 +25,9 @@ pub enum Work {
     /// The proved writer without room: it checks the whole store, puts nothing, and answers 23.
     Check,
     /// The proved reader of stored bytes, with exactly the rows that the tree needs.
-    Kept,
+    Kept(Version),
     /// The proved writer of stored bytes, into a room that they fit exactly.
-    Keep,
+    Keep(Version),
     /// The proved boxes of the text's rows, into a table of exactly as many rows as nodes.
     Boxes,
     /// The Rust's reader. Its tree is freed, and that counts.
@@ -38,14 +38,16 @@ pub enum Work {
     RustDoubles,
 }
 
-pub const WORKS: [Work; 11] = [
+pub const WORKS: [Work; 13] = [
     Work::Exact,
     Work::Ample,
     Work::Utf8,
     Work::Write,
     Work::Check,
-    Work::Kept,
-    Work::Keep,
+    Work::Kept(Version::One),
+    Work::Keep(Version::One),
+    Work::Kept(Version::Two),
+    Work::Keep(Version::Two),
     Work::Boxes,
     Work::Rust,
     Work::RustUtf8,
@@ -60,8 +62,10 @@ impl Work {
             Work::Utf8 => "utf8",
             Work::Write => "write",
             Work::Check => "check",
-            Work::Kept => "kept",
-            Work::Keep => "keep",
+            Work::Kept(Version::One) => "kept",
+            Work::Keep(Version::One) => "keep",
+            Work::Kept(Version::Two) => "kept-2",
+            Work::Keep(Version::Two) => "keep-2",
             Work::Boxes => "boxes",
             Work::Rust => "rust",
             Work::RustUtf8 => "rust-utf8",
@@ -73,10 +77,25 @@ impl Work {
         WORKS.into_iter().find(|work| work.name() == name)
     }
 
-    /// A refused text has nothing to write or to check, and no boxes.
+    /// A refused text has nothing to write or to check, and no boxes; a tree may be too large for
+    /// a version of the stored form.
     pub fn applies_to(self, sample: &Sample) -> bool {
-        let of_a_tree = matches!(self, Work::Write | Work::Check | Work::Keep | Work::Boxes);
-        !of_a_tree || sample.is_accepted()
+        match self {
+            Work::Write | Work::Check | Work::Boxes => sample.is_accepted(),
+            Work::Keep(version) => sample.is_accepted() && sample.stored(version).is_some(),
+            Work::Kept(version) => sample.stored(version).is_some(),
+            _ => true,
+        }
+    }
+
+    /// What it takes of a sample beside the text and its rows.
+    pub fn part(self) -> Option<Part> {
+        match self {
+            Work::Write | Work::Check => Some(Part::Canonical),
+            Work::Kept(version) | Work::Keep(version) => Some(Part::Stored(version)),
+            Work::Boxes => Some(Part::Boxes),
+            _ => None,
+        }
     }
 
     /// The bytes that an amount is divided by: those of the canonical text for the writer
@@ -85,7 +104,7 @@ impl Work {
     pub fn bytes_of(self, sample: &Sample) -> usize {
         match self {
             Work::Write | Work::Check => sample.canonical.len(),
-            Work::Keep => sample.stored.len(),
+            Work::Keep(version) => sample.stored(version).map_or(0, <[u8]>::len),
             _ => sample.text.len(),
         }
     }
@@ -139,25 +158,30 @@ impl<'a> Job<'a> {
 
 fn rows_lent(work: Work, sample: &Sample) -> (Vec<u32>, Vec<u32>) {
     match work {
-        Work::Exact | Work::Write | Work::Check | Work::Kept | Work::Keep | Work::Boxes => {
-            (sample.nodes.clone(), sample.numbers.clone())
-        }
-        Work::Ample => (vec![1; AMPLE_NODES], vec![1; AMPLE_NUMBERS]),
-        _ => (Vec::new(), Vec::new()),
+        Work::Ample => (
+            vec![1; ample_nodes(sample.size)],
+            vec![1; ample_numbers(sample.size)],
+        ),
+        Work::Utf8 | Work::Rust | Work::RustUtf8 | Work::RustDoubles => (Vec::new(), Vec::new()),
+        _ => (sample.nodes.clone(), sample.numbers.clone()),
     }
 }
 
 fn room_lent(work: Work, sample: &Sample) -> Vec<u8> {
     match work {
         Work::Check => Vec::new(),
-        Work::Keep => sample.stored.clone(),
+        Work::Keep(version) => stored_bytes(version, sample),
         _ => sample.canonical.clone(),
     }
 }
 
+fn stored_bytes(version: Version, sample: &Sample) -> Vec<u8> {
+    sample.stored(version).unwrap_or_default().to_vec()
+}
+
 fn bytes_read(work: Work, sample: &Sample) -> Vec<u8> {
-    if work == Work::Kept {
-        return sample.stored.clone();
+    if let Work::Kept(version) = work {
+        return stored_bytes(version, sample);
     }
     let mut bytes = sample.text.clone().into_bytes();
     if let (Work::Utf8, Some(last)) = (work, bytes.last_mut()) {
@@ -172,9 +196,9 @@ fn expected_number(work: Work, sample: &Sample) -> u64 {
         Work::Exact | Work::Ample => sample.answer.number,
         Work::Utf8 => 2,
         Work::Check => 23,
-        Work::Kept if !sample.is_accepted() => 22,
+        Work::Kept(_) if !sample.is_accepted() => 22,
         Work::Rust => u64::from(!sample.is_accepted()),
-        Work::Kept | Work::Keep | Work::Write | Work::Boxes => 0,
+        Work::Kept(_) | Work::Keep(_) | Work::Write | Work::Boxes => 0,
         Work::RustUtf8 | Work::RustDoubles => 0,
     }
 }
@@ -189,9 +213,12 @@ fn measured(job: &mut Job) -> u64 {
         Work::Write | Work::Check => {
             library::write(&job.bytes, &job.nodes, &job.numbers, &mut job.out).number
         }
-        Work::Kept => library::read_stored(&job.bytes, &mut job.nodes, &mut job.numbers).number,
-        Work::Keep => {
-            library::write_stored(&job.bytes, &job.nodes, &job.numbers, &mut job.out).number
+        Work::Kept(version) => {
+            library::read_stored(version, &job.bytes, &mut job.nodes, &mut job.numbers).number
+        }
+        Work::Keep(version) => {
+            library::write_stored(version, &job.bytes, &job.nodes, &job.numbers, &mut job.out)
+                .number
         }
         Work::Boxes => library::boxes(&job.bytes, &job.nodes, &job.numbers, &mut job.table),
         Work::Rust => u64::from(Wkt::<f64>::from_str(job.text).is_err()),

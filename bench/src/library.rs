@@ -2,6 +2,28 @@
 
 const ANSWER_PLACES: usize = 4;
 
+type ReadStored = unsafe extern "C" fn(
+    *const u8,
+    usize,
+    *mut u32,
+    usize,
+    *mut u32,
+    usize,
+    *mut [u64; ANSWER_PLACES],
+);
+
+type WriteStored = unsafe extern "C" fn(
+    *const u8,
+    usize,
+    *const u32,
+    usize,
+    *const u32,
+    usize,
+    *mut u8,
+    usize,
+    *mut [u64; ANSWER_PLACES],
+);
+
 extern "C" {
     fn doorhollow_read(
         text: *const u8,
@@ -32,7 +54,27 @@ extern "C" {
         numbers_length: usize,
         answer: *mut [u64; ANSWER_PLACES],
     );
+    fn doorhollow_read_stored_2(
+        bytes: *const u8,
+        byte_count: usize,
+        nodes: *mut u32,
+        nodes_length: usize,
+        numbers: *mut u32,
+        numbers_length: usize,
+        answer: *mut [u64; ANSWER_PLACES],
+    );
     fn doorhollow_write_stored_1(
+        text: *const u8,
+        text_length: usize,
+        nodes: *const u32,
+        nodes_length: usize,
+        numbers: *const u32,
+        numbers_length: usize,
+        out: *mut u8,
+        out_length: usize,
+        answer: *mut [u64; ANSWER_PLACES],
+    );
+    fn doorhollow_write_stored_2(
         text: *const u8,
         text_length: usize,
         nodes: *const u32,
@@ -54,6 +96,38 @@ extern "C" {
         table_length: usize,
         answer: *mut [u64; ANSWER_PLACES],
     );
+}
+
+/// The versions of the stored form.
+#[derive(Clone, Copy, Debug, PartialEq, Eq, Hash)]
+pub enum Version {
+    One,
+    Two,
+}
+
+pub const VERSIONS: [Version; 2] = [Version::One, Version::Two];
+
+impl Version {
+    pub fn number(self) -> usize {
+        match self {
+            Version::One => 1,
+            Version::Two => 2,
+        }
+    }
+
+    fn reader(self) -> ReadStored {
+        match self {
+            Version::One => doorhollow_read_stored_1,
+            Version::Two => doorhollow_read_stored_2,
+        }
+    }
+
+    fn writer(self) -> WriteStored {
+        match self {
+            Version::One => doorhollow_write_stored_1,
+            Version::Two => doorhollow_write_stored_2,
+        }
+    }
 }
 
 #[derive(Clone, Copy, Debug, PartialEq, Eq)]
@@ -119,11 +193,17 @@ pub fn write(text: &[u8], nodes: &[u32], numbers: &[u32], out: &mut [u8]) -> Wri
     }
 }
 
-pub fn read_stored(bytes: &[u8], nodes: &mut [u32], numbers: &mut [u32]) -> ReadAnswer {
+pub fn read_stored(
+    version: Version,
+    bytes: &[u8],
+    nodes: &mut [u32],
+    numbers: &mut [u32],
+) -> ReadAnswer {
     let mut answer = [0; ANSWER_PLACES];
+    let reader = version.reader();
     // SAFETY: as in `read`.
     unsafe {
-        doorhollow_read_stored_1(
+        reader(
             bytes.as_ptr(),
             bytes.len(),
             nodes.as_mut_ptr(),
@@ -142,11 +222,18 @@ pub fn read_stored(bytes: &[u8], nodes: &mut [u32], numbers: &mut [u32]) -> Read
     }
 }
 
-pub fn write_stored(text: &[u8], nodes: &[u32], numbers: &[u32], out: &mut [u8]) -> WriteAnswer {
+pub fn write_stored(
+    version: Version,
+    text: &[u8],
+    nodes: &[u32],
+    numbers: &[u32],
+    out: &mut [u8],
+) -> WriteAnswer {
     let mut answer = [0; ANSWER_PLACES];
+    let writer = version.writer();
     // SAFETY: as in `read`.
     unsafe {
-        doorhollow_write_stored_1(
+        writer(
             text.as_ptr(),
             text.len(),
             nodes.as_ptr(),

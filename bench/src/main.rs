@@ -8,6 +8,8 @@ mod library;
 mod measure;
 mod others;
 mod samples;
+mod scale;
+mod stack;
 mod tables;
 mod texts;
 
@@ -15,10 +17,10 @@ use jobs::{Job, Work};
 use samples::Sample;
 use std::path::Path;
 use std::process::ExitCode;
-use texts::{Kind, LIMIT};
+use texts::{Kind, USUAL};
 
-const USAGE: &str =
-    "usage: bench/run [--quick | --times | --stored | --boxes | --functions TEXT [WORK]]";
+const USAGE: &str = "usage: bench/run [--quick | --times | --stored | --boxes | --scale | --stack \
+                     | --functions TEXT [WORK]]";
 
 fn main() -> ExitCode {
     let words: Vec<String> = std::env::args().skip(1).collect();
@@ -37,6 +39,8 @@ fn answer(words: &[&str]) -> Result<(), String> {
         ["quick"] => tables::quick(),
         ["times"] => tables::times(),
         ["stored"] => tables::stored(),
+        ["scale"] => scale::print(),
+        ["stack", program] => stack::print(Path::new(program)),
         ["boxes", others] => tables::boxes(Path::new(others)),
         ["full", others] => tables::full(Path::new(others)),
         ["functions", counts, kind] => functions(counts, kind, Work::Exact.name()),
@@ -48,24 +52,29 @@ fn answer(words: &[&str]) -> Result<(), String> {
 
 fn functions(counts: &str, kind: &str, work: &str) -> Result<(), String> {
     let work = work_named(work)?;
-    let sample = Sample::compared(kind_named(kind)?, LIMIT)?;
+    let sample = Sample::compared(kind_named(kind)?, USUAL)?;
     applicable(work, &sample)?;
     functions::print(work, &sample, Path::new(counts))
 }
 
-/// What callgrind counts.
+/// What callgrind counts. A text that is longer than usual was compared before, by who asks for
+/// this: under callgrind it would take minutes.
 fn once(work: &str, kind: &str, size: &str) -> Result<(), String> {
     let work = work_named(work)?;
+    let kind = kind_named(kind)?;
     let size = size.parse().map_err(|_| format!("{size} isn't a size"))?;
-    let sample = Sample::compared(kind_named(kind)?, size)?;
+    let sample = match size {
+        0..=USUAL => Sample::compared(kind, size)?,
+        _ => Sample::with(work.part().as_slice(), kind, size)?,
+    };
     applicable(work, &sample)?;
     Job::new(work, &sample).run();
     Ok(())
 }
 
 fn applicable(work: Work, sample: &Sample) -> Result<(), String> {
-    let refused = || format!("{} is refused: it has no tree", sample.kind.name());
-    work.applies_to(sample).then_some(()).ok_or_else(refused)
+    let why = || format!("{} has no {}", sample.kind.name(), work.name());
+    work.applies_to(sample).then_some(()).ok_or_else(why)
 }
 
 fn kind_named(name: &str) -> Result<Kind, String> {

@@ -2,7 +2,7 @@
 
 use crate::jobs::{Job, Work, MEASURED};
 use crate::samples::Sample;
-use crate::texts::Kind;
+use crate::texts::{Kind, USUAL};
 use std::collections::HashMap;
 use std::io::{self, Write};
 use std::path::{Path, PathBuf};
@@ -13,12 +13,17 @@ use std::time::{Duration, Instant};
 /// can only make a run longer.
 pub const ROUNDS: usize = 1_000;
 
+/// The same for texts of this size: longer ones than usual are timed as much less often.
+pub fn rounds_of(size: usize) -> usize {
+    (ROUNDS * USUAL).div_ceil(size.max(USUAL))
+}
+
 /// The least time of each work, in nanoseconds per byte. The works take turns, so that
 /// a busy spell of the machine meets all of them.
 pub fn nanoseconds(works: &[Work], sample: &Sample) -> Vec<f64> {
     let mut jobs: Vec<Job> = works.iter().map(|work| Job::new(*work, sample)).collect();
     let mut least = vec![Duration::MAX; works.len()];
-    for _ in 0..ROUNDS {
+    for _ in 0..rounds_of(sample.size) {
         for (job, least) in jobs.iter_mut().zip(&mut least) {
             let start = Instant::now();
             job.run();

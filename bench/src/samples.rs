@@ -1,6 +1,6 @@
 //! A text with its rows, after both readers have answered the same.
 
-use crate::library::{self, ReadAnswer};
+use crate::library::{self, ReadAnswer, Version, VERSIONS};
 use crate::texts::{Kind, LIMIT};
 use driver::reader::{self, Reading, Tree};
 
@@ -12,10 +12,18 @@ const BOX_WIDTH: usize = 5;
 /// A box's sides are in ten-millionths.
 const UNITS_IN_ONE: f64 = 1e7;
 
-/// Places that every text has room in: a node takes 4 bytes of text at least (`1 2,` in a
-/// multipoint), and a number 2.
-pub const AMPLE_NODES: usize = NODE_WIDTH * (LIMIT / 4 + 1);
-pub const AMPLE_NUMBERS: usize = NUMBER_WIDTH * (LIMIT / 2 + 1);
+/// Places that every text of so many bytes has room in: a node takes 4 bytes of text at least
+/// (`1 2,` in a multipoint), and a number 2.
+pub const fn ample_nodes(size: usize) -> usize {
+    NODE_WIDTH * (size / 4 + 1)
+}
+
+pub const fn ample_numbers(size: usize) -> usize {
+    NUMBER_WIDTH * (size / 2 + 1)
+}
+
+/// The refusal of a tree that is too large for a version of the stored form.
+const DOES_NOT_FIT: u64 = 27;
 
 /// What a lent place holds before a call, so that a place that isn't written shows.
 const UNCLEARED: u32 = 0xDEAD_BEEF;
@@ -31,11 +39,27 @@ pub struct Sample {
     pub numbers: Vec<u32>,
     /// Empty if the text is refused.
     pub canonical: Vec<u8>,
-    /// The stored bytes of the rows; if the text is refused, with a wrong last byte.
-    pub stored: Vec<u8>,
+    /// The stored bytes of the rows, of each version that they fit; if the text is refused, with
+    /// a wrong last byte.
+    stored: Vec<(Version, Vec<u8>)>,
     /// The boxes, a row for each node; empty if the text is refused.
     pub boxes: Vec<i64>,
 }
+
+/// What a sample may have beside its text and its rows. Each is made only where it is asked for.
+#[derive(Clone, Copy, Debug, PartialEq, Eq)]
+pub enum Part {
+    Canonical,
+    Stored(Version),
+    Boxes,
+}
+
+const PARTS: [Part; 4] = [
+    Part::Canonical,
+    Part::Stored(Version::One),
+    Part::Stored(Version::Two),
+    Part::Boxes,
+];
 
 struct Rows {
     answer: ReadAnswer,
@@ -44,43 +68,61 @@ struct Rows {
 }
 
 impl Sample {
-    /// The text of this kind and size, or why it can't be measured.
+    /// The text of this kind and size with all parts, or why it can't be measured.
     pub fn compared(kind: Kind, size: usize) -> Result<Sample, String> {
-        let sample = Sample::read(kind, size)?;
-        let rust = reader::read(&sample.text);
-        sample.agree(&rust).map_err(|why| {
-            let bytes = sample.text.len();
-            format!("text {} of {bytes} bytes: {why}", kind.name())
-        })?;
+        let named = |why| format!("text {} of {size} bytes: {why}", kind.name());
+        let sample = Sample::with(&PARTS, kind, size)?;
+        sample.agree(&reader::read(&sample.text)).map_err(named)?;
+        for version in VERSIONS {
+            sample.agree_on_stored(version).map_err(named)?;
+        }
         Ok(sample)
     }
 
-    fn read(kind: Kind, size: usize) -> Result<Sample, String> {
+    /// The text of this kind and size with these parts, not compared with anything.
+    pub fn with(parts: &[Part], kind: Kind, size: usize) -> Result<Sample, String> {
         let text = kind.text(size);
         if text.len() > size.min(LIMIT) {
             return Err(format!("text {} is too long", kind.name()));
         }
-        let rows = used_rows(&kind.accepted_text(size));
+        let rows = used_rows(&kind.accepted_text(size), size);
         let answer = read_with_room(&text, rows.nodes.len(), rows.numbers.len()).answer;
-        let (canonical, boxes) = match answer.number {
-            0 => (canonical_of(&text, &rows)?, boxes_of(&text, &rows)?),
-            _ => (Vec::new(), Vec::new()),
-        };
-        let mut stored = stored_of(&kind.accepted_text(size), &rows)?;
-        if let (1.., Some(last)) = (answer.number, stored.last_mut()) {
-            *last = b'x';
-        }
-        Ok(Sample {
+        let mut sample = Sample {
             kind,
             size,
             text,
             answer,
             nodes: rows.nodes,
             numbers: rows.numbers,
-            canonical,
-            stored,
-            boxes,
-        })
+            canonical: Vec::new(),
+            stored: Vec::new(),
+            boxes: Vec::new(),
+        };
+        for part in parts {
+            sample.make(*part)?;
+        }
+        Ok(sample)
+    }
+
+    /// A refused text has neither a canonical text nor boxes.
+    fn make(&mut self, part: Part) -> Result<(), String> {
+        match part {
+            Part::Canonical if self.is_accepted() => self.canonical = self.canonical_text()?,
+            Part::Boxes if self.is_accepted() => self.boxes = self.table_of_boxes()?,
+            Part::Stored(version) => {
+                let stored = self.written_as(version)?.map(|bytes| self.broken(bytes));
+                self.stored.extend(stored.map(|bytes| (version, bytes)));
+            }
+            Part::Canonical | Part::Boxes => {}
+        }
+        Ok(())
+    }
+
+    /// The stored bytes, where the rows fit this version.
+    pub fn stored(&self, version: Version) -> Option<&[u8]> {
+        let mut all = self.stored.iter();
+        let found = all.find(|(of, _)| *of == version);
+        found.map(|(_, bytes)| bytes.as_slice())
     }
 
     fn agree(&self, rust: &Reading) -> Result<(), String> {
@@ -124,6 +166,32 @@ impl Sample {
         )
     }
 
+    /// The stored bytes have to be read back to the same rows and number texts, and to be written
+    /// again from them.
+    fn agree_on_stored(&self, version: Version) -> Result<(), String> {
+        let Some(stored) = self.written_as(version)? else {
+            return Ok(());
+        };
+        let text = self.kind.accepted_text(self.size);
+        let mut nodes = vec![UNCLEARED; self.nodes.len()];
+        let mut numbers = vec![UNCLEARED; self.numbers.len()];
+        let back = library::read_stored(version, &stored, &mut nodes, &mut numbers);
+        hold(back.number == 0, "the stored reader refuses its bytes")?;
+        hold(nodes == self.nodes, "the stored bytes have other nodes")?;
+        let kept = numbers.chunks(NUMBER_WIDTH).map(|row| part(&stored, row));
+        let mut pairs = kept.zip(self.numbers.chunks(NUMBER_WIDTH));
+        hold(
+            pairs.all(|(kept, read)| kept == part(text.as_bytes(), read)),
+            "the stored bytes have other numbers",
+        )?;
+        let mut again = vec![0; stored.len()];
+        let answer = library::write_stored(version, &stored, &nodes, &numbers, &mut again);
+        hold(
+            answer.number == 0 && again == stored,
+            "they are written otherwise again",
+        )
+    }
+
     /// Whether the box of the whole is within a unit of an envelope of doubles: lowest and
     /// highest X, lowest and highest Y. A double is far closer to its number than that.
     pub fn agree_on_envelope(&self, envelope: &[f64]) -> Result<(), String> {
@@ -134,6 +202,53 @@ impl Sample {
             sides.len() == envelope.len() && sides.iter().zip(envelope).all(is_near),
             &format!("the box {sides:?} isn't the envelope {envelope:?}"),
         )
+    }
+
+    /// The canonical text may be longer than the text: a bare point of a multipoint gets
+    /// parentheses. Twice as long is enough.
+    fn canonical_text(&self) -> Result<Vec<u8>, String> {
+        let mut out = vec![0; 2 * self.text.len()];
+        let text = self.text.as_bytes();
+        let answer = library::write(text, &self.nodes, &self.numbers, &mut out);
+        hold(answer.number == 0, "the writer refuses its rows")?;
+        out.truncate(answer.length as usize);
+        Ok(out)
+    }
+
+    /// The boxes, in a table of exactly as many rows as nodes.
+    fn table_of_boxes(&self) -> Result<Vec<i64>, String> {
+        let mut table = vec![i64::from(UNCLEARED); self.node_count() * BOX_WIDTH];
+        let text = self.text.as_bytes();
+        let number = library::boxes(text, &self.nodes, &self.numbers, &mut table);
+        hold(number == 0, "the boxes refuse its rows")?;
+        hold(
+            table.chunks(BOX_WIDTH).all(is_box),
+            "a row of the table is no box",
+        )?;
+        Ok(table)
+    }
+
+    /// The stored bytes of the rows, where they fit this version. A field has 3 bytes more than
+    /// its content, and there are no more fields than bytes of text.
+    fn written_as(&self, version: Version) -> Result<Option<Vec<u8>>, String> {
+        let text = self.kind.accepted_text(self.size);
+        let mut out = vec![0; 8 * text.len()];
+        let text = text.as_bytes();
+        let answer = library::write_stored(version, text, &self.nodes, &self.numbers, &mut out);
+        if answer.number == DOES_NOT_FIT {
+            return Ok(None);
+        }
+        hold(answer.number == 0, "the stored writer refuses its rows")?;
+        out.truncate(answer.length as usize);
+        Ok(Some(out))
+    }
+
+    /// If the text is refused, the bytes with a wrong last one.
+    fn broken(&self, mut bytes: Vec<u8>) -> Vec<u8> {
+        if let (false, Some(last)) = (self.is_accepted(), bytes.last_mut()) {
+            *last = b'x';
+        }
+        bytes
     }
 
     pub fn is_accepted(&self) -> bool {
@@ -170,8 +285,8 @@ fn hold(fact: bool, otherwise: &str) -> Result<(), String> {
     fact.then_some(()).ok_or_else(|| otherwise.to_string())
 }
 
-fn used_rows(text: &str) -> Rows {
-    let mut rows = read_with_room(text, AMPLE_NODES, AMPLE_NUMBERS);
+fn used_rows(text: &str, size: usize) -> Rows {
+    let mut rows = read_with_room(text, ample_nodes(size), ample_numbers(size));
     rows.nodes.truncate(NODE_WIDTH * rows.answer.nodes as usize);
     rows.numbers
         .truncate(NUMBER_WIDTH * rows.answer.numbers as usize);
@@ -189,29 +304,6 @@ fn read_with_room(text: &str, node_places: usize, number_places: usize) -> Rows 
     }
 }
 
-/// The canonical text may be longer than the text: a bare point of a multipoint gets
-/// parentheses. Twice as long is enough.
-fn canonical_of(text: &str, rows: &Rows) -> Result<Vec<u8>, String> {
-    let mut out = vec![0; 2 * text.len()];
-    let answer = library::write(text.as_bytes(), &rows.nodes, &rows.numbers, &mut out);
-    hold(answer.number == 0, "the writer refuses its rows")?;
-    out.truncate(answer.length as usize);
-    Ok(out)
-}
-
-/// The boxes, in a table of exactly as many rows as nodes.
-fn boxes_of(text: &str, rows: &Rows) -> Result<Vec<i64>, String> {
-    let places = rows.nodes.len() / NODE_WIDTH * BOX_WIDTH;
-    let mut table = vec![i64::from(UNCLEARED); places];
-    let number = library::boxes(text.as_bytes(), &rows.nodes, &rows.numbers, &mut table);
-    hold(number == 0, "the boxes refuse its rows")?;
-    hold(
-        table.chunks(BOX_WIDTH).all(is_box),
-        "a row of the table is no box",
-    )?;
-    Ok(table)
-}
-
 /// Whether a row is a box or that of a node without coordinates. One that wasn't written is neither.
 fn is_box(row: &[i64]) -> bool {
     match row {
@@ -219,35 +311,6 @@ fn is_box(row: &[i64]) -> bool {
         [1, low_x, high_x, low_y, high_y] => low_x <= high_x && low_y <= high_y,
         _ => false,
     }
-}
-
-/// The stored bytes, which have to be read back to the same rows and number texts, and to be
-/// written again from them. A field has 3 bytes more than its content, and there are no more
-/// fields than bytes of text.
-fn stored_of(text: &str, rows: &Rows) -> Result<Vec<u8>, String> {
-    let mut out = vec![0; 8 * text.len()];
-    let answer = library::write_stored(text.as_bytes(), &rows.nodes, &rows.numbers, &mut out);
-    hold(answer.number == 0, "the stored writer refuses its rows")?;
-    out.truncate(answer.length as usize);
-    let mut nodes = vec![UNCLEARED; rows.nodes.len()];
-    let mut numbers = vec![UNCLEARED; rows.numbers.len()];
-    let back = library::read_stored(&out, &mut nodes, &mut numbers);
-    hold(back.number == 0, "the stored reader refuses its bytes")?;
-    hold(nodes == rows.nodes, "the stored bytes have other nodes")?;
-    let mut pairs = numbers
-        .chunks(NUMBER_WIDTH)
-        .zip(rows.numbers.chunks(NUMBER_WIDTH));
-    hold(
-        pairs.all(|(kept, read)| part(&out, kept) == part(text.as_bytes(), read)),
-        "the stored bytes have other numbers",
-    )?;
-    let mut again = vec![0; out.len()];
-    let answer = library::write_stored(&out, &nodes, &numbers, &mut again);
-    hold(
-        answer.number == 0 && again == out,
-        "they are written otherwise again",
-    )?;
-    Ok(out)
 }
 
 fn part<'a>(bytes: &'a [u8], row: &[u32]) -> &'a [u8] {

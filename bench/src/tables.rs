@@ -2,29 +2,29 @@
 
 use crate::boxes;
 use crate::jobs::Work;
+use crate::library::{Version, VERSIONS};
 use crate::measure::{nanoseconds, Counter, ROUNDS};
 use crate::others::{self, Other, Outcome};
-use crate::samples::{Sample, AMPLE_NODES, AMPLE_NUMBERS};
-use crate::texts::{Kind, KINDS, LIMIT};
+use crate::samples::{ample_nodes, ample_numbers, Sample};
+use crate::texts::{Kind, KINDS, USUAL};
 use std::path::Path;
 
-/// The sizes at which growth is looked at. The last is the limit, one byte short of
-/// 64 KiB.
-const SIZES: [usize; 4] = [1_024, 4_096, 16_384, LIMIT];
+/// The sizes at which growth is looked at. The last is one byte short of 64 KiB.
+const SIZES: [usize; 4] = [1_024, 4_096, 16_384, USUAL];
 
 /// What a table has where there is nothing to measure.
 pub const NOTHING: &str = "-";
 
 /// The answers compared, and the instructions of the reading.
 pub fn quick() -> Result<(), String> {
-    let samples = all_of_size(LIMIT)?;
+    let samples = all_of_size(USUAL)?;
     print_texts(&samples);
     print_reading(&samples, &mut Counter::default())
 }
 
 /// Everything.
 pub fn full(others: &Path) -> Result<(), String> {
-    let samples = all_of_size(LIMIT)?;
+    let samples = all_of_size(USUAL)?;
     let mut counter = Counter::default();
     print_texts(&samples);
     print_reading(&samples, &mut counter)?;
@@ -80,7 +80,7 @@ fn print_reading(samples: &[Sample], counter: &mut Counter) -> Result<(), String
         }
         row(&reading_row(sample, &counts));
     }
-    let [nodes, numbers] = [AMPLE_NODES, AMPLE_NUMBERS].map(|places| 4 * places);
+    let [nodes, numbers] = [ample_nodes(USUAL), ample_numbers(USUAL)].map(|places| 4 * places);
     println!("\nAmple rows are {nodes} bytes for nodes and {numbers} for numbers.");
     Ok(())
 }
@@ -155,15 +155,23 @@ fn of_writing(
 
 /// The stored form beside the text.
 pub fn stored() -> Result<(), String> {
-    let samples = all_of_size(LIMIT)?;
+    let samples = all_of_size(USUAL)?;
     print_stored(&samples, &mut Counter::default())?;
     print_stored_times(&samples);
     Ok(())
 }
 
-const STORED: [Work; 3] = [Work::Exact, Work::Kept, Work::Rust];
-const STORED_HEADS: [&str; 7] = [
+const STORED: [Work; 6] = [
+    Work::Exact,
+    Work::Rust,
+    Work::Kept(Version::One),
+    Work::Kept(Version::Two),
+    Work::Keep(Version::One),
+    Work::Keep(Version::Two),
+];
+const STORED_HEADS: [&str; 8] = [
     "text",
+    "version",
     "stored bytes",
     "reading the text",
     "reading the stored bytes",
@@ -172,33 +180,41 @@ const STORED_HEADS: [&str; 7] = [
     "writing, per byte written",
 ];
 
-/// A row for the amounts of `STORED`, and that of the writing.
-fn stored_row(sample: &Sample, amounts: &[f64], writing: Option<f64>) -> [String; 7] {
-    let [text, stored, rust] = [amounts[0], amounts[1], amounts[2]];
-    [
-        sample.kind.name().to_string(),
-        sample.stored.len().to_string(),
-        amount(text),
-        amount(stored),
-        amount(stored / text),
-        amount(stored / rust),
-        writing.map_or(NOTHING.to_string(), amount),
-    ]
+/// The works of `STORED` that there are for a text.
+fn stored_works(sample: &Sample) -> Vec<Work> {
+    let works = STORED.into_iter();
+    works.filter(|work| work.applies_to(sample)).collect()
+}
+
+/// A row for each version, for the amounts of `stored_works`.
+fn print_stored_rows(sample: &Sample, amounts: &[f64]) {
+    let works = stored_works(sample);
+    let found = |work| works.iter().position(|one| *one == work);
+    let of = |work| found(work).map(|place| amounts[place]);
+    let shown = |value: Option<f64>| value.map_or(NOTHING.to_string(), amount);
+    let ratio = |a: Option<f64>, b: Option<f64>| Some(a? / b?);
+    for version in VERSIONS {
+        let stored = of(Work::Kept(version));
+        row(&[
+            sample.kind.name().to_string(),
+            version.number().to_string(),
+            sample.stored(version).map_or(0, <[u8]>::len).to_string(),
+            shown(of(Work::Exact)),
+            shown(stored),
+            shown(ratio(stored, of(Work::Exact))),
+            shown(ratio(stored, of(Work::Rust))),
+            shown(of(Work::Keep(version))),
+        ]);
+    }
 }
 
 fn print_stored(samples: &[Sample], counter: &mut Counter) -> Result<(), String> {
     title("Stored trees: instructions, of the readings per byte of the text");
     head(&STORED_HEADS);
     for sample in samples {
-        let mut counts = Vec::new();
-        for work in STORED {
-            counts.push(counter.instructions(work, sample)?);
-        }
-        let writing = match Work::Keep.applies_to(sample) {
-            true => Some(counter.instructions(Work::Keep, sample)?),
-            false => None,
-        };
-        row(&stored_row(sample, &counts, writing));
+        let works = stored_works(sample).into_iter();
+        let counts = works.map(|work| counter.instructions(work, sample));
+        print_stored_rows(sample, &counts.collect::<Result<Vec<f64>, String>>()?);
     }
     Ok(())
 }
@@ -209,20 +225,13 @@ fn print_stored_times(samples: &[Sample]) {
     ));
     head(&STORED_HEADS);
     for sample in samples {
-        let mut works = STORED.to_vec();
-        works.extend(Some(Work::Keep).filter(|work| work.applies_to(sample)));
-        let times = nanoseconds(&works, sample);
-        row(&stored_row(
-            sample,
-            &times,
-            times.get(STORED.len()).copied(),
-        ));
+        print_stored_rows(sample, &nanoseconds(&stored_works(sample), sample));
     }
 }
 
 /// The boxes beside the reading and GEOS's envelope.
 pub fn boxes(others: &Path) -> Result<(), String> {
-    let samples = all_of_size(LIMIT)?;
+    let samples = all_of_size(USUAL)?;
     boxes::print(
         &samples,
         &mut Counter::default(),
@@ -232,7 +241,7 @@ pub fn boxes(others: &Path) -> Result<(), String> {
 
 /// The times of the reading and the writing.
 pub fn times() -> Result<(), String> {
-    let samples = all_of_size(LIMIT)?;
+    let samples = all_of_size(USUAL)?;
     print_times(&samples);
     print_stored_times(&samples);
     Ok(())

@@ -1,7 +1,11 @@
 //! The texts that are read. The same kind and size always give the same text.
 
 /// The longest text that the reader takes.
-pub const LIMIT: usize = 65_535;
+pub const LIMIT: usize = 4_194_304;
+
+/// The most bytes of the texts of all tables but those of the scale and of the stack. It was the
+/// limit once, and stays, so that figures can be held beside earlier ones.
+pub const USUAL: usize = 65_535;
 
 /// So many collections may be open at once.
 const OPEN_COLLECTIONS: usize = 32;

@@ -11,13 +11,16 @@
 //! ```
 //!
 //! A tree can be kept as bytes and in files, which are smaller work to read than the text was ([`Tree::to_stored`],
-//! [`read_stored`], [`Tree::save`], [`load`]): one tree has one stored form, and what isn't one is refused.
+//! [`read_stored`], [`Tree::save`], [`load`]): one tree has one stored form in each [`Version`], and what isn't one is
+//! refused.
 //!
 //! Beside each node stands the box around its coordinates ([`Tree::bounds`]), and which boxes touch a rectangle is found
 //! without another look at the text ([`Boxes::touching`]).
 //!
 //! A tree is rows: each node is one, and its children's rows follow it. Nodes are named by the index of their row,
 //! from 0, which is the root. Numbers are parts of the text that was read, and no doubles: parse them as you need.
+//!
+//! What the reader takes a text apart into can be had too ([`tokens()`]).
 #![warn(missing_docs)]
 
 mod boxes;
@@ -27,7 +30,9 @@ mod explain;
 mod refusal;
 pub mod refusals;
 mod stored;
+mod tokens;
 mod tree;
+mod version;
 
 pub use boxes::{Bounds, Boxes, UNITS_IN_ONE};
 pub use calls::{
@@ -36,14 +41,16 @@ pub use calls::{
 };
 pub use expectations::Expected;
 pub use refusal::Refusal;
-pub use stored::{load, read_stored, read_stored_into, FileError, Loaded, STORED_LIMIT};
+pub use stored::{load, read_stored, read_stored_as, read_stored_into, FileError, Loaded};
+pub use tokens::{tokens, Token, TokenKind, Tokens};
 pub use tree::{Children, Coordinate, Coordinates, Node, Tree, Walk};
+pub use version::Version;
 
 use std::borrow::Cow;
 use std::fmt;
 
 /// The most bytes that a text may have.
-pub const TEXT_LIMIT: usize = 65_535;
+pub const TEXT_LIMIT: usize = 4_194_304;
 
 /// The kinds of geometry.
 #[derive(Clone, Copy, Debug, PartialEq, Eq, Hash)]
@@ -150,7 +157,30 @@ impl fmt::Display for Fault {
 
 impl std::error::Error for Fault {}
 
+/// Rows of both sorts, those of the nodes first, filled by a reader and cut to those that it used: the memory of the
+/// others is given back.
+fn filled_rows<F>(
+    node_rows: usize,
+    number_rows: usize,
+    reader: F,
+) -> Result<(Vec<u32>, Vec<u32>), Refusal>
+where
+    F: FnOnce(&mut [u32], &mut [u32]) -> Result<(usize, usize), Refusal>,
+{
+    let mut nodes = vec![0; node_rows * NODE_WIDTH];
+    let mut numbers = vec![0; number_rows * NUMBER_WIDTH];
+    let (node_count, number_count) = reader(&mut nodes, &mut numbers)?;
+    nodes.truncate(node_count * NODE_WIDTH);
+    nodes.shrink_to_fit();
+    numbers.truncate(number_count * NUMBER_WIDTH);
+    numbers.shrink_to_fit();
+    Ok((nodes, numbers))
+}
+
 /// Reads the geometry that a text begins with. What follows it is unread.
+///
+/// While it reads, there are as many rows of both sorts as [`enough_rows`] says, which take ten times as many bytes as
+/// the text has; those that the tree uses are left.
 pub fn read<T: AsRef<[u8]> + ?Sized>(text: &T) -> Result<Tree<'_>, Refusal> {
     let text = text.as_ref();
     // A text over the limit is refused without any row.
@@ -159,30 +189,22 @@ pub fn read<T: AsRef<[u8]> + ?Sized>(text: &T) -> Result<Tree<'_>, Refusal> {
     } else {
         0
     };
-    let mut nodes = vec![0; rows * NODE_WIDTH];
-    let mut numbers = vec![0; rows * NUMBER_WIDTH];
-    let (node_count, number_count) = calls::read(text, &mut nodes, &mut numbers)?;
-    nodes.truncate(node_count * NODE_WIDTH);
-    numbers.truncate(number_count * NUMBER_WIDTH);
+    let reader = |nodes: &mut [u32], numbers: &mut [u32]| calls::read(text, nodes, numbers);
+    let (nodes, numbers) = filled_rows(rows, rows, reader)?;
     Ok(Tree::new(text, Cow::Owned(nodes), Cow::Owned(numbers)))
 }
 
 /// Reads into rows that the caller lends, and allocates nothing: `nodes` has room for a third as many nodes as it is
-/// long, `numbers` for half as many numbers; [`enough_rows`] says how many are enough. Every place after the used rows is zero, and after a refusal every place.
+/// long, `numbers` for half as many numbers; [`enough_rows`] says how many are enough. Every place after the used rows
+/// is zero, and after a refusal every place.
 pub fn read_into<'a, T: AsRef<[u8]> + ?Sized>(
     text: &'a T,
     nodes: &'a mut [u32],
     numbers: &'a mut [u32],
 ) -> Result<Tree<'a>, Refusal> {
     let text = text.as_ref();
-    let (node_count, number_count) = calls::read(text, nodes, numbers)?;
-    let nodes = &nodes[..node_count * NODE_WIDTH];
-    let numbers = &numbers[..number_count * NUMBER_WIDTH];
-    Ok(Tree::new(
-        text,
-        Cow::Borrowed(nodes),
-        Cow::Borrowed(numbers),
-    ))
+    let used = calls::read(text, nodes, numbers)?;
+    Ok(Tree::lent(text, nodes, numbers, used))
 }
 
 /// The kind and the dimension that the front of a text names. It looks no further than the first `(`.

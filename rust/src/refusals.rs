@@ -1,6 +1,6 @@
 //! The numbers of the refusals by name, with their messages: made by tools/refusals from crates/refusals/table.txt.
 
-/// `More bytes than a text (65,535) or a stored tree (1,048,576) may have`
+/// `More bytes than may be read; the place is the limit`
 pub const TEXT_TOO_LONG: u32 = 1;
 
 /// `The text is not well-formed UTF-8`
@@ -92,7 +92,7 @@ pub const NUMBER_TOO_LARGE: u32 = 31;
 
 pub(crate) fn message(number: u32) -> &'static str {
     match number {
-        TEXT_TOO_LONG => "More bytes than a text (65,535) or a stored tree (1,048,576) may have",
+        TEXT_TOO_LONG => "More bytes than may be read; the place is the limit",
         ILL_FORMED_UTF8 => "The text is not well-formed UTF-8",
         NO_NODE_ROW => "No room for another node",
         NO_NUMBER_ROW => "No room for another number",

@@ -1,5 +1,6 @@
 //! Trees kept as bytes, and in files.
-use crate::{calls, Refusal, Tree, NODE_WIDTH, NUMBER_WIDTH};
+use crate::version::{FIELD_HEAD, VERSION_PLACE};
+use crate::{calls, filled_rows, Refusal, Tree, Version, NUMBER_WIDTH};
 use std::borrow::Cow;
 use std::ffi::{OsStr, OsString};
 use std::fs::{self, File, OpenOptions};
@@ -7,20 +8,8 @@ use std::io::{self, Read, Write};
 use std::path::{Path, PathBuf};
 use std::{fmt, process};
 
-/// The most bytes that a stored tree may have.
-pub const STORED_LIMIT: usize = 1_048_576;
-
-// What a field has before its content, and how long a head's content and a node's are.
-const FIELD_HEAD: usize = 3;
-const HEAD_CONTENT: usize = 5;
-const NODE_CONTENT: usize = 4;
-
-// Where the two counts of a head stand: two bytes each, the higher first.
-const NODE_COUNT: usize = 4;
-const NUMBER_COUNT: usize = 6;
-
-/// Reads a tree from stored bytes, which it borrows: the numbers' texts lie in them, so [`Tree::text`] is the stored
-/// bytes, and no well-known text.
+/// Reads a tree from stored bytes of either version, which it borrows: the numbers' texts lie in them, so
+/// [`Tree::text`] is the stored bytes, and no well-known text.
 ///
 /// ```
 /// let kept = doorhollow::read("POINT(1 2)")?.to_stored()?;
@@ -29,76 +18,79 @@ const NUMBER_COUNT: usize = 6;
 /// # Ok::<(), doorhollow::Refusal>(())
 /// ```
 ///
-/// Refusals: 1, 22, 25 and 26.
+/// The version is that of [`Version::of`]. Refusals: 1, 22, 25 and 26.
 pub fn read_stored(bytes: &[u8]) -> Result<Tree<'_>, Refusal> {
-    let (nodes, numbers) = read_rows(bytes)?;
+    read_stored_as(bytes, Version::of(bytes))
+}
+
+/// Reads a tree from stored bytes of one version, as [`read_stored`] does; those of the other are refused with 26.
+pub fn read_stored_as(bytes: &[u8], version: Version) -> Result<Tree<'_>, Refusal> {
+    let (nodes, numbers) = read_rows(bytes, version)?;
     Ok(Tree::new(bytes, Cow::Owned(nodes), Cow::Owned(numbers)))
 }
 
-/// Reads stored bytes into rows that the caller lends, and allocates nothing, as [`read_into`](crate::read_into) does with
-/// a text. There is room enough where there are as many rows as bytes divided by 7 and by 3. Refusals: 1, 3, 4, 22, 25 and 26.
+/// Reads stored bytes of a version into rows that the caller lends, and allocates nothing, as
+/// [`read_into`](crate::read_into) does with a text. As many node rows are enough as the bytes divided by 7 for version
+/// 1 and by 9 for version 2, and as many number rows as the bytes divided by 3. Refusals: 1, 3, 4, 22, 25 and 26.
 pub fn read_stored_into<'a>(
     bytes: &'a [u8],
+    version: Version,
     nodes: &'a mut [u32],
     numbers: &'a mut [u32],
 ) -> Result<Tree<'a>, Refusal> {
-    let (node_count, number_count) = calls::read_stored(bytes, nodes, numbers)?;
-    Ok(Tree::new(
-        bytes,
-        Cow::Borrowed(&nodes[..node_count * NODE_WIDTH]),
-        Cow::Borrowed(&numbers[..number_count * NUMBER_WIDTH]),
-    ))
+    let used = calls::read_stored(version, bytes, nodes, numbers)?;
+    Ok(Tree::lent(bytes, nodes, numbers, used))
 }
 
-fn count_at(bytes: &[u8], at: usize) -> usize {
-    match bytes.get(at..at + 2) {
-        Some(count) => usize::from(count[0]) << 8 | usize::from(count[1]),
-        None => 0,
-    }
-}
-
-// As many rows as the head tells of, where the bytes have room for their fields: so nothing is refused for want of rows.
-fn read_rows(bytes: &[u8]) -> Result<(Vec<u32>, Vec<u32>), Refusal> {
-    let node_rows = count_at(bytes, NODE_COUNT).min(bytes.len() / (FIELD_HEAD + NODE_CONTENT));
-    let number_rows = count_at(bytes, NUMBER_COUNT).min(bytes.len() / FIELD_HEAD);
-    let mut nodes = vec![0; node_rows * NODE_WIDTH];
-    let mut numbers = vec![0; number_rows * NUMBER_WIDTH];
-    let (node_count, number_count) = calls::read_stored(bytes, &mut nodes, &mut numbers)?;
-    nodes.truncate(node_count * NODE_WIDTH);
-    numbers.truncate(number_count * NUMBER_WIDTH);
-    Ok((nodes, numbers))
+fn read_rows(bytes: &[u8], version: Version) -> Result<(Vec<u32>, Vec<u32>), Refusal> {
+    let (node_rows, number_rows) = version.rows_for(bytes);
+    filled_rows(node_rows, number_rows, |nodes, numbers| {
+        calls::read_stored(version, bytes, nodes, numbers)
+    })
 }
 
 impl Tree<'_> {
-    /// The tree as stored bytes. Refusal 27 where it is too large for them: a count over 65,535, a number's text over 65,535
-    /// bytes, or more than [`STORED_LIMIT`] bytes in all.
+    /// The tree as stored bytes: of version 1 where it fits that, and else of version 2. Refusal 27 where it fits
+    /// neither.
     pub fn to_stored(&self) -> Result<Vec<u8>, Refusal> {
-        let mut out = vec![0; self.stored_length().min(STORED_LIMIT)];
-        let length = self.write_stored_into(&mut out)?;
+        // Rows that were read are a store, and the room is as long as the bytes: so 27 is all that version 1 refuses.
+        self.to_stored_as(Version::One)
+            .or_else(|_| self.to_stored_as(Version::Two))
+    }
+
+    /// The tree as stored bytes of a version. Refusal 27 where it is too large for that: a count over 65,535 in version
+    /// 1, a number's text over 65,535 bytes, or more bytes in all than [`Version::limit`].
+    pub fn to_stored_as(&self, version: Version) -> Result<Vec<u8>, Refusal> {
+        let length = self.stored_length(version);
+        // More bytes than the limit are refused without any room.
+        let room = if length <= version.limit() { length } else { 0 };
+        let mut out = vec![0; room];
+        let length = self.write_stored_into(version, &mut out)?;
         out.truncate(length);
         Ok(out)
     }
 
-    /// Writes the stored bytes into a room that the caller lends, and answers how many they are. Refusals 27 and 23; then
-    /// the room is all zero.
-    pub fn write_stored_into(&self, out: &mut [u8]) -> Result<usize, Refusal> {
-        calls::write_stored_rows(self.text(), self.node_rows(), self.number_rows(), out)
+    /// Writes the stored bytes of a version into a room that the caller lends, and answers how many they are. Refusals
+    /// 27 and 23; then the room is all zero.
+    pub fn write_stored_into(&self, version: Version, out: &mut [u8]) -> Result<usize, Refusal> {
+        let (nodes, numbers) = (self.node_rows(), self.number_rows());
+        calls::write_stored_rows(version, self.text(), nodes, numbers, out)
     }
 
-    /// How many bytes the stored form has, where the tree fits it.
-    pub fn stored_length(&self) -> usize {
+    /// How many stored bytes the tree has in a version that it fits.
+    pub fn stored_length(&self, version: Version) -> usize {
         let texts: usize = self
             .number_rows()
             .chunks_exact(NUMBER_WIDTH)
             .map(|row| FIELD_HEAD + row[1] as usize)
             .sum();
-        FIELD_HEAD + HEAD_CONTENT + self.node_count() * (FIELD_HEAD + NODE_CONTENT) + texts
+        version.head_length() + self.node_count() * version.node_length() + texts
     }
 
-    /// Saves the tree in a file as stored bytes.
+    /// Saves the tree in a file as stored bytes, of version 1 where it fits that, and else of version 2.
     ///
-    /// The bytes are written to a new file beside it, which is synced to the disk and then takes the name: whenever a crash comes, the
-    /// file is the old one or the new one. A link is followed, and an old file's permissions are kept.
+    /// The bytes are written to a new file beside it, which is synced to the disk and then takes the name: whenever a
+    /// crash comes, the file is the old one or the new one. A link is followed, and an old file's permissions are kept.
     pub fn save<P: AsRef<Path> + ?Sized>(&self, path: &P) -> Result<(), FileError> {
         let path = path.as_ref();
         let bytes = self
@@ -132,14 +124,20 @@ impl Loaded {
     pub fn bytes(&self) -> &[u8] {
         &self.bytes
     }
+
+    /// The version of the stored bytes.
+    pub fn version(&self) -> Version {
+        Version::of(&self.bytes)
+    }
 }
 
-/// Loads a tree that was saved. Of a file that is too long no more is read than shows that.
+/// Loads a tree that was saved, in either version. Of a file that is too long for the version that it names no more is
+/// read than shows that.
 pub fn load<P: AsRef<Path> + ?Sized>(path: &P) -> Result<Loaded, FileError> {
     let path = path.as_ref();
     let bytes = read_file(path).map_err(|error| FileError::failed(path, error))?;
-    let (nodes, numbers) =
-        read_rows(&bytes).map_err(|refusal| FileError::refused(path, refusal))?;
+    let (nodes, numbers) = read_rows(&bytes, Version::of(&bytes))
+        .map_err(|refusal| FileError::refused(path, refusal))?;
     Ok(Loaded {
         bytes,
         nodes,
@@ -148,11 +146,19 @@ pub fn load<P: AsRef<Path> + ?Sized>(path: &P) -> Result<Loaded, FileError> {
 }
 
 fn read_file(path: &Path) -> io::Result<Vec<u8>> {
+    let file = File::open(path)?;
     let mut bytes = Vec::new();
-    File::open(path)?
-        .take(STORED_LIMIT as u64 + 1)
-        .read_to_end(&mut bytes)?;
+    read_up_to(VERSION_PLACE + 1, &file, &mut bytes)?;
+    let limit = Version::of(&bytes).limit();
+    read_up_to(limit + 1, &file, &mut bytes)?;
+    bytes.shrink_to_fit();
     Ok(bytes)
+}
+
+// Reads on until there are so many bytes, or the file ends.
+fn read_up_to(length: usize, file: &File, bytes: &mut Vec<u8>) -> io::Result<usize> {
+    let left = length - bytes.len();
+    file.take(left as u64).read_to_end(bytes)
 }
 
 /// Why a tree wasn't saved or loaded, and in which file.

@@ -32,8 +32,8 @@ impl Node {
     }
 }
 
-/// A geometry that was read from a text, which it borrows. Its rows are its own, or lent by the caller of
-/// [`read_into`](crate::read_into).
+/// A geometry that was read from a text or from stored bytes, which it borrows. Its rows are its own, or lent by the
+/// caller of [`read_into`](crate::read_into) or [`read_stored_into`](crate::read_stored_into).
 #[derive(Clone, Debug)]
 pub struct Tree<'a> {
     text: &'a [u8],
@@ -51,6 +51,20 @@ impl<'a> Tree<'a> {
             numbers,
             boxes: OnceLock::new(),
         }
+    }
+
+    /// Over lent rows, of which so many for nodes and so many for numbers are used.
+    pub(crate) fn lent(
+        text: &'a [u8],
+        nodes: &'a [u32],
+        numbers: &'a [u32],
+        (node_count, number_count): (usize, usize),
+    ) -> Tree<'a> {
+        Tree::new(
+            text,
+            Cow::Borrowed(&nodes[..node_count * NODE_WIDTH]),
+            Cow::Borrowed(&numbers[..number_count * NUMBER_WIDTH]),
+        )
     }
 
     /// The text that was read, with what follows the geometry.

@@ -1,6 +1,7 @@
 //! The edges of document 01, asked of the real library.
 use doorhollow::{
     enough_rows, infer_type, read, read_into, Dimension, Kind, Refusal, NODE_WIDTH, NUMBER_WIDTH,
+    TEXT_LIMIT,
 };
 
 fn refused<T>(answer: Result<T, Refusal>) -> (u32, usize) {
@@ -58,9 +59,10 @@ fn collections_and_limits() {
     let open = |n: usize| "GEOMETRYCOLLECTION(".repeat(n) + "POINT EMPTY" + &")".repeat(n);
     assert_eq!(read(&open(32)).unwrap().node_count(), 33);
     assert_eq!(refused(read(&open(33))), (5, 626));
-    let long = format!("POINT(1 2){}", " ".repeat(65_525));
+    assert_eq!(TEXT_LIMIT, 4_194_304);
+    let long = format!("POINT(1 2){}", " ".repeat(TEXT_LIMIT - 10));
     assert_eq!(read(&long).unwrap().node_count(), 1);
-    assert_eq!(refused(read(&format!("{long} "))), (1, 65_535));
+    assert_eq!(refused(read(&format!("{long} "))), (1, 4_194_304));
     assert_eq!(refused(read(b"POINT(1 2)\xFF")), (2, 10));
     assert_eq!(refused(read(b"\xE4\xBA")), (2, 0));
 }

@@ -115,8 +115,8 @@ fn long_lines_are_cut() {
         lines[1].as_bytes()[lines[2].len() - 1],
         text.as_bytes()[read(&text).unwrap_err().place]
     );
-    let over = "京".repeat(30_000);
-    assert!(explained(&over).starts_with("refused 1 65535: "));
+    let over = "京".repeat(1_400_000);
+    assert!(explained(&over).starts_with("refused 1 4194304: "));
 }
 
 #[test]

@@ -1,6 +1,8 @@
 //! Trees as stored bytes, and in files.
-use doorhollow::{load, read, read_stored, read_stored_into, refusals, FileError, Refusal};
-use std::fs;
+use doorhollow::{
+    load, read, read_stored, read_stored_into, refusals, FileError, Refusal, Version,
+};
+use std::fs::{self, File};
 use std::path::{Path, PathBuf};
 
 const TEXTS: [&str; 8] = [
@@ -63,7 +65,7 @@ fn the_same_tree_comes_back() {
     for text in TEXTS {
         let tree = read(text).unwrap();
         let kept = tree.to_stored().unwrap();
-        assert_eq!(kept.len(), tree.stored_length(), "{text}");
+        assert_eq!(kept.len(), tree.stored_length(Version::One), "{text}");
         let back = read_stored(&kept).unwrap();
         assert_eq!(back.node_rows(), tree.node_rows(), "{text}");
         let numbers = |tree: &doorhollow::Tree<'_>| -> Vec<String> {
@@ -94,45 +96,29 @@ fn rows_that_are_lent() {
     let kept = read("MULTIPOINT(1 2,3 4)").unwrap().to_stored().unwrap();
     let mut nodes = [7; 9];
     let mut numbers = [7; 9];
-    let tree = read_stored_into(&kept, &mut nodes, &mut numbers).unwrap();
+    let tree = read_stored_into(&kept, Version::One, &mut nodes, &mut numbers).unwrap();
     assert_eq!((tree.node_count(), tree.number_count()), (3, 4));
     assert_eq!(numbers[8], 0);
     let refused = |node_places: usize, number_places: usize| {
         let mut nodes = [7; 9];
         let mut numbers = [7; 9];
         let (lent, places) = (&mut nodes[..node_places], &mut numbers[..number_places]);
-        let refusal = read_stored_into(&kept, lent, places).unwrap_err();
+        let refusal = read_stored_into(&kept, Version::One, lent, places).unwrap_err();
         assert!(lent.iter().chain(places.iter()).all(|place| *place == 0));
         (refusal.number, refusal.place)
     };
     assert_eq!(refused(6, 8), (refusals::NO_NODE_ROW, 8 + 2 * 7));
     assert_eq!(refused(9, 7), (refusals::NO_NUMBER_ROW, 8 + 3 * 7 + 3 * 4));
     let mut out = vec![7; kept.len()];
-    assert_eq!(tree_of(&kept).write_stored_into(&mut out), Ok(kept.len()));
+    let tree = read_stored(&kept).unwrap();
+    let written = tree.write_stored_into(Version::One, &mut out);
+    assert_eq!(written, Ok(kept.len()));
     assert_eq!(out, kept);
-    let short = tree_of(&kept).write_stored_into(&mut out[1..]).unwrap_err();
+    let short = tree
+        .write_stored_into(Version::One, &mut out[1..])
+        .unwrap_err();
     assert_eq!((short.number, short.place), (refusals::NO_ROOM, 0));
     assert!(out[1..].iter().all(|byte| *byte == 0));
-}
-
-fn tree_of(kept: &[u8]) -> doorhollow::Tree<'_> {
-    read_stored(kept).unwrap()
-}
-
-#[test]
-fn what_does_not_fit() {
-    let text = format!("POINT(1 {})", "2".repeat(65_500));
-    assert!(read(&text).unwrap().to_stored().is_ok());
-    // Spans may overlap: rows of one's own can need more than the form has.
-    let digits = "1".repeat(65_536);
-    let tree = |length: u32| {
-        let mut out = vec![0; 200_000];
-        doorhollow::write_stored_rows(digits.as_bytes(), &[1, 0, 1], &[0, length, 0, 1], &mut out)
-    };
-    assert_eq!(tree(65_535), Ok(8 + 7 + 3 + 65_535 + 3 + 1));
-    let place = 0;
-    let number = refusals::DOES_NOT_FIT;
-    assert_eq!(tree(65_536), Err(Refusal { number, place }));
 }
 
 #[test]
@@ -145,7 +131,56 @@ fn a_file_is_saved_and_loaded() {
         let loaded = load(&path).unwrap();
         assert_eq!(loaded.tree().to_wkt(), tree.to_wkt());
         assert_eq!(loaded.bytes(), fs::read(&path).unwrap());
+        assert_eq!(loaded.version(), Version::One);
     }
+    assert_eq!(folder.names(), ["shape"], "nothing is left beside it");
+}
+
+#[test]
+fn files_of_both_versions_are_loaded() {
+    let folder = Folder::new("versions");
+    let path = folder.file("shape");
+    for text in TEXTS {
+        let tree = read(text).unwrap();
+        for version in Version::ALL {
+            let kept = tree.to_stored_as(version).unwrap();
+            fs::write(&path, &kept).unwrap();
+            let loaded = load(&path).unwrap();
+            assert_eq!(loaded.version(), version);
+            assert_eq!(loaded.bytes(), kept);
+            assert_eq!(loaded.tree().node_rows(), tree.node_rows(), "{text}");
+            assert_eq!(loaded.tree().to_wkt(), tree.to_wkt());
+        }
+    }
+}
+
+#[test]
+fn what_does_not_fit_version_1_is_saved_in_version_2() {
+    let folder = Folder::new("large");
+    let path = folder.file("shape");
+    let line = format!("LINESTRING({}1 2)", "1 2,".repeat(1_000_000));
+    let lines = format!("MULTILINESTRING({}(1 2))", "EMPTY,".repeat(65_535));
+    for text in [line, lines] {
+        let tree = read(&text).unwrap();
+        tree.save(&path).unwrap();
+        let loaded = load(&path).unwrap();
+        assert_eq!(loaded.version(), Version::Two);
+        assert_eq!(loaded.bytes().len(), tree.stored_length(Version::Two));
+        assert!(loaded.tree().node_rows() == tree.node_rows());
+        assert!(loaded.tree().to_wkt() == text);
+    }
+    // in the place of one of version 2, and of one that fits no version
+    read("POINT(1 2)").unwrap().save(&path).unwrap();
+    assert_eq!(load(&path).unwrap().version(), Version::One);
+    let long = format!("POINT(1 {})", "2".repeat(65_536));
+    let error = read(&long).unwrap().save(&path).unwrap_err();
+    let number = refusals::DOES_NOT_FIT;
+    assert!(
+        matches!(error, FileError::Refused { refusal, .. } if refusal == Refusal { number, place: 0 }),
+        "{error}"
+    );
+    let kept = load(&path).unwrap();
+    assert_eq!(kept.tree().to_wkt(), "POINT(1 2)", "the old file stays");
     assert_eq!(folder.names(), ["shape"], "nothing is left beside it");
 }
 
@@ -167,20 +202,53 @@ fn a_file_that_is_refused_says_number_and_place() {
         (refusals::FAULTY_FIELD, kept.len())
     );
     assert_eq!(
-        number_and_place(b"\x01\xFF\xFF\x02"),
+        number_and_place(b"\x01\xFF\xFF\x03"),
         (refusals::UNKNOWN_VERSION, 3)
+    );
+    assert_eq!(
+        number_and_place(b"\x01\xFF\xFF\x02"),
+        (refusals::FAULTY_FIELD, 0),
+        "version 2 is known"
     );
     let mut ill = kept.clone();
     ill[18] = b'x';
     assert_eq!(number_and_place(&ill), (refusals::ILL_FORMED_STORE, 0));
-    let long = vec![0; 2_000_000];
-    assert_eq!(
-        number_and_place(&long),
-        (refusals::TEXT_TOO_LONG, 1_048_576)
-    );
     let told = load(&path).unwrap_err().to_string();
     assert!(told.starts_with(path.to_str().unwrap()), "{told}");
-    assert!(told.ends_with("(refused 1 at byte 1048576)"), "{told}");
+    assert!(told.ends_with("(refused 22 at byte 0)"), "{told}");
+}
+
+/// The refusal of a file that begins with bytes, and goes on with zeros up to a length.
+fn refused_of_length(path: &Path, front: &[u8], length: u64) -> (u32, usize) {
+    fs::write(path, front).unwrap();
+    File::options()
+        .write(true)
+        .open(path)
+        .unwrap()
+        .set_len(length)
+        .unwrap();
+    let refusal = refused_in(path);
+    (refusal.number, refusal.place)
+}
+
+#[test]
+fn a_file_that_is_too_long_for_its_version_is_refused() {
+    let folder = Folder::new("long");
+    let path = folder.file("shape");
+    let tree = read("POINT(1 2)").unwrap();
+    for version in Version::ALL {
+        let kept = tree.to_stored_as(version).unwrap();
+        let limit = version.limit();
+        let over = (refusals::TEXT_TOO_LONG, limit);
+        let extra = (refusals::FAULTY_FIELD, kept.len());
+        // a terabyte, of which no more is read than the limit and a byte
+        assert_eq!(refused_of_length(&path, &kept, 1 << 40), over);
+        assert_eq!(refused_of_length(&path, &kept, limit as u64 + 1), over);
+        assert_eq!(refused_of_length(&path, &kept, limit as u64), extra);
+    }
+    let unknown = [1, 0, 0, 3];
+    let over = (refusals::TEXT_TOO_LONG, 1_048_576);
+    assert_eq!(refused_of_length(&path, &unknown, 2_000_000), over);
 }
 
 #[test]

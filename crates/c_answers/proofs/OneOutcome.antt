@@ -8,7 +8,8 @@ use Rattle.store.specs.declared.WriteAnswer.{WriteAnswer}
 use Rattle.strict.specs.declared.StrictAnswer.{StrictAnswer}
 use Rattle.infer_type.specs.declared.Inferred.{Inferred}
 use Rattle.bounds.specs.declared.BoxAnswer.{BoxAnswer}
-use Rattle.c_answers.specs.Answers.{readPlaces, writePlaces, strictPlaces, inferPlaces, boxPlaces}
+use Rattle.token.specs.declared.Found.{Found}
+use Rattle.c_answers.specs.Answers.{readPlaces, writePlaces, strictPlaces, inferPlaces, boxPlaces, tokenPlaces}
 
 pub read_places-one : (a : ReadAnswer) → One (λ r. r ≡ readPlaces a)
 read_places-one a = one
@@ -24,3 +25,6 @@ infer_places-one a = one
 
 pub box_places-one : (a : BoxAnswer) → One (λ r. r ≡ boxPlaces a)
 box_places-one a = one
+
+pub token_places-one : (found : Found) → One (λ r. r ≡ tokenPlaces found)
+token_places-one found = one

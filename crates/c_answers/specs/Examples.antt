@@ -7,7 +7,9 @@ use Rattle.store.specs.declared.WriteAnswer.{WriteAnswer}
 use Rattle.strict.specs.declared.StrictAnswer.{StrictAnswer}
 use Rattle.infer_type.specs.declared.Inferred.{Inferred}
 use Rattle.bounds.specs.declared.BoxAnswer.{BoxAnswer}
-use Rattle.c_answers.specs.Answers.{readPlaces, writePlaces, strictPlaces, inferPlaces, boxPlaces}
+use Rattle.token.specs.declared.Token.the-variants.{Comma, Number, ParenClose, ParenOpen, Word}
+use Rattle.token.specs.declared.Found.the-variants.{NoToken, BadNumber, Is}
+use Rattle.c_answers.specs.Answers.{readPlaces, writePlaces, strictPlaces, inferPlaces, boxPlaces, placesOf, tokenPlaces}
 
 -- "The reader answers number, place, node count, number count"
 readAnswer : ReadAnswer
@@ -48,3 +50,10 @@ boxAnswer = record { number = 11; place = 12 }
 box : boxPlaces boxAnswer ≡ 11 ∷ 12 ∷ 0 ∷ 0 ∷ []
 unfolding boxAnswer
 box = refl
+
+-- every sort of token, and none, and a bad number: sort, place, start, length
+tokens : (placesOf 12 Comma ≡ 2 ∷ 12 ∷ 0 ∷ 0 ∷ []) × (placesOf 12 ParenClose ≡ 3 ∷ 12 ∷ 0 ∷ 0 ∷ []) × (placesOf 12 ParenOpen ≡ 4 ∷ 12 ∷ 0 ∷ 0 ∷ []) × (placesOf 12 (Number 13 14) ≡ 5 ∷ 12 ∷ 13 ∷ 14 ∷ []) × (placesOf 12 (Word 13 14) ≡ 6 ∷ 12 ∷ 13 ∷ 14 ∷ [])
+tokens = (refl, refl, refl, refl, refl)
+
+found : (tokenPlaces (NoToken 12) ≡ 0 ∷ 12 ∷ 0 ∷ 0 ∷ []) × (tokenPlaces (BadNumber 12) ≡ 1 ∷ 12 ∷ 0 ∷ 0 ∷ []) × (tokenPlaces (Is 12 (Number 13 14)) ≡ 5 ∷ 12 ∷ 13 ∷ 14 ∷ [])
+found = (refl, refl, refl)

@@ -8,5 +8,7 @@ pub mod Demand3
 pub mod LaterBytes
 pub mod Rooms
 pub mod Stored
+pub mod Versions
+pub mod LongerTexts
 pub mod Boxes
 pub mod Numbers

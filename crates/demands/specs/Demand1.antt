@@ -69,7 +69,7 @@ ReadsBySteps =
     (text ns ms : List ℕ) (a : ReadAnswer) (ns′ ms′ : List ℕ) → Read text ns ms a ns′ ms′ → a .number ≡ 0 →
     (rs : List Row) × (ss : List Span) × (s : Str) × Came (nodeRoom ns) (numberRoom ms) (toks text 0) [] read-whole (out rs ss) s × (usedNodes a ns′ ≡ flatRows rs) × (usedNumbers a ms′ ≡ flatSpans ss)
 
--- "1 | text over 65,535 bytes", "2 | ill-formed UTF-8": exactly then
+-- "1 | text over 4,194,304 bytes", "2 | ill-formed UTF-8": exactly then
 abbrev pub ReadTooLong : Type 0
 ReadTooLong = (text ns ms : List ℕ) (a : ReadAnswer) (ns′ ms′ : List ℕ) → Read text ns ms a ns′ ms′ → a .number ≡ textTooLong ↔ overLimit (length text) ≡ true
 

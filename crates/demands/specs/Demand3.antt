@@ -21,7 +21,7 @@ use Rattle.to_wkt.specs.Write.{Written}
 use Rattle.demands.specs.Calls.{Read, usedNodes, usedNumbers}
 
 -- ---- canonical text as a form
--- "of at most 65,535 bytes": longer ones are refused 1
+-- of at most 4,194,304 bytes (document 02, 2026-05): longer ones are refused 1
 pub record FitsText (t : Tree depthLimit) : Type 0 where
   pub good : GoodTree depthLimit t
   pub short : length (canonicalText t) ≤ textLimit
@@ -51,7 +51,7 @@ abbrev pub OneWritingByCalls : Type 0
 OneWritingByCalls = OneTreeOneWriting canonicalForm textEntries
 
 -- ---- the same of the canonical text itself
--- a well-formed store with a canonical text of at most 65,535 bytes
+-- a well-formed store with a canonical text of at most 4,194,304 bytes
 pub record Short (text nodes numbers : List ℕ) : Type 0 where
   pub well : wellFormed text nodes numbers ≡ true
   pub short : length (writtenText text nodes numbers) ≤ textLimit

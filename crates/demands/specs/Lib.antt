@@ -9,7 +9,10 @@ pub mod Demand3
 pub mod LaterBytes
 pub mod Rooms
 pub mod Stored
+pub mod Versions
+pub mod LongerTexts
 pub mod Boxes
 pub mod StoredExamples
+pub mod LongerExamples
 pub mod FormerExamples
 pub mod BoxesExamples

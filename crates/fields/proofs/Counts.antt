@@ -113,6 +113,23 @@ four-fit bs a h = lt-of-lt-of-le (count-bound bs a) (pow-le-pow-right {n = byte}
 pub kept-all : (bs : List ℕ) → All IsByte bs → length bs ≤ 4 → countIn bs % 2 ^ 32 ≡ countIn bs
 kept-all bs a h = mod-eq-of-lt (four-fit bs a h)
 
+-- ---- of two bytes and of four, taken two at a time
+pub two-count : (l : List ℕ) → length l ≡ 2 → {r : ℕ} → r ≡ getD l 0 0 * byte + getD l 1 0 → r < 65536 → r ≡ countIn l % 2 ^ 32
+unfolding countAfter
+two-count [] e z h = absurd (omega (arith, e))
+two-count (a ∷ []) e z h = absurd (omega (arith, e))
+two-count (a ∷ b ∷ []) e z h = omega (arith, z, h)
+two-count (a ∷ b ∷ c ∷ l) e z h = absurd (omega (arith, e))
+
+pub four-count : (l : List ℕ) → length l ≡ 4 → {high low : ℕ} → high ≡ getD l 0 0 * byte + getD l 1 0 → high < 65536 → low ≡ getD l 2 0 * byte + getD l 3 0 → low < 65536 → high * 65536 + low ≡ countIn l % 2 ^ 32
+unfolding countAfter
+four-count [] e y g z h = absurd (omega (arith, e))
+four-count (a ∷ []) e y g z h = absurd (omega (arith, e))
+four-count (a ∷ b ∷ []) e y g z h = absurd (omega (arith, e))
+four-count (a ∷ b ∷ c ∷ []) e y g z h = absurd (omega (arith, e))
+four-count (a ∷ b ∷ c ∷ d ∷ []) e y g z h = omega (arith, y, g, z, h)
+four-count (a ∷ b ∷ c ∷ d ∷ x ∷ l) e y g z h = absurd (omega (arith, e))
+
 -- ---- the count that a part of lent bytes says
 module _ (bytes : List ℕ) (all : (i : ℕ) → getD bytes i 0 < byte) where
   part-bytes : (start w : ℕ) → All IsByte (take w (drop start bytes))

@@ -87,3 +87,26 @@ module _ (out content counted : List ℕ) (at tag : ℕ) (fits : at + headLength
 
   pub field-one : length content ≡ 1 → set headed (at + headLength) (getD content 0 0) ≡ sets out at (field tag content)
   field-one e = sets-one content headed (at + headLength) e ∙ field-all
+
+-- ---- two bytes and four, put two at a time
+pub two-put : (l : List ℕ) (n : ℕ) → length l ≡ 2 → {r : List ℕ} → r ≡ set (set l 0 (n / byte % byte)) 1 (n % byte) → r ≡ countBytes (length l) n
+unfolding countBytes
+two-put [] n e is = absurd (omega (arith, e))
+two-put (a ∷ []) n e is = absurd (omega (arith, e))
+two-put (a ∷ b ∷ []) n e is = is
+two-put (a ∷ b ∷ c ∷ l) n e is = absurd (omega (arith, e))
+
+four-bytes : (n : ℕ) → countBytes 4 n ≡ n / 65536 / byte % byte ∷ n / 65536 % byte ∷ n / byte % byte ∷ n % byte ∷ []
+unfolding countBytes
+four-bytes n =
+    let h : n / byte / byte / byte % byte ≡ n / 65536 / byte % byte = omega arith in
+    let l : n / byte / byte % byte ≡ n / 65536 % byte = omega arith in
+    rw (h, l)
+
+pub four-put : (l : List ℕ) (n : ℕ) → length l ≡ 4 → {m r : List ℕ} → m ≡ set (set l 0 (n / 65536 / byte % byte)) 1 (n / 65536 % byte) → r ≡ set (set m 2 (n / byte % byte)) 3 (n % byte) → r ≡ countBytes (length l) n
+four-put [] n e y z = absurd (omega (arith, e))
+four-put (a ∷ []) n e y z = absurd (omega (arith, e))
+four-put (a ∷ b ∷ []) n e y z = absurd (omega (arith, e))
+four-put (a ∷ b ∷ c ∷ []) n e y z = absurd (omega (arith, e))
+four-put (a ∷ b ∷ c ∷ d ∷ []) n e y z = z ∙ rw (y, four-bytes n)
+four-put (a ∷ b ∷ c ∷ d ∷ x ∷ l) n e y z = absurd (omega (arith, e))

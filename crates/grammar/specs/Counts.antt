@@ -23,6 +23,6 @@ pub thousand-commas :
 unfolding all
 thousand-commas = refl
 
--- "text over 65,535 bytes": a text with as many bytes as the count is over the limit, so no text that is read has as many tokens
+-- "text over 4,194,304 bytes": a text with as many bytes as the count is over the limit, so no text that is read has as many tokens
 pub over-the-limit : overLimit enough ≡ true
 over-the-limit = refl

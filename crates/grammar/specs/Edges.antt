@@ -108,7 +108,7 @@ edges =
     ∷ reads 40 9 (bytes "POINT ZM(1 2 3 x)") (refused (refusal 17 15))
     ∷ reads 40 9 (bytes "POINT\0(1 2)") (refused (refusal 10 5))
     ∷ reads 40 9 (bytes "POINT Z\0(1 2 3)") (refused (refusal 12 7))
-    ∷ reads 40 9 (repeated 65536 (bytes " ")) (refused (refusal 1 65535))
+    ∷ reads 40 9 (repeated 65536 (bytes " ")) (refused (refusal 8 65536))
     ∷ writes 40 9 (bytes "POINT(++4 +-4)") (bytes "POINT(++4 -4)")
     ∷ []
 

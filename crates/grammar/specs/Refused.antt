@@ -1,15 +1,17 @@
 -- Each refusal of the reader at each step that gives it and with each sort of token, as a table of the same form as `Edges`:
 -- `every-refusal` computes it. So no number can move to another step, token or order, though definition and code moved together.
 use mathlib.Core.Path.{_≡_, refl}
+use mathlib.Core.Bool.{true}
 use mathlib.Core.List.{List, [], _∷_, _++_, flatMap}
 use Prim.Native.Nat.{ℕ}
-use lib.ListN.{replicate}
+use lib.ListN.{length, replicate}
 use Rattle.scan.specs.Text.{bytes}
 use Rattle.scan.specs.Front.{begins, afterOne, afterAll, isNil}
 use Rattle.words.specs.Words.{sameWord}
 use Rattle.number.specs.Lexeme.{isNamed, isDigits, isExponent, isDecimal, isUnsigned, isLexeme}
 use Rattle.kinds.specs.Kinds.{kindPoint, kindGeometryCollection, dimXY}
 use Rattle.lists.specs.Lists.{every, All}
+use Rattle.limits.specs.Limits.{overLimit}
 use Rattle.names.specs.Names.{spellings, lookup, meaning, ending}
 use Rattle.store.specs.Rows.{nodeOver, span, closeIn}
 use Rattle.token.specs.Examples.{allBad}
@@ -179,14 +181,14 @@ refusals =
     (nodes (nested 32 (leaf kindGeometryCollection dimXY 0)) [])
     ∷ reads 80 9 (repeated 32 (bytes "GEOMETRYCOLLECTION(") ++ bytes "GEOMETRYCOLLECTION (") (halt (refusal 5 627))
     ∷ reads 0 9 (bytes "GEOMETRYCOLLECTION(") (halt (refusal 3 18))
-    -- 2 before all that is met, and 1 before 2: characters of four bytes; 65,536 and 65,537 bytes that are no UTF-8
+    -- 2 before all that is met: characters of four bytes; 65,536 and 65,537 bytes that are no UTF-8
     ∷ reads 0 0 (bytes "(" ++ earth) (refused (refusal 8 0))
     ∷ reads 40 9 earth (refused (refusal 7 0))
     ∷ reads 40 9 (bytes "POINT(1 2)" ++ earth) (nodes onePoint (span 6 1 (bytes "1") ∷ span 8 1 (bytes "2") ∷ []))
     ∷ reads 40 9 (bytes "POINT(1 2)" ++ 0xF0 ∷ 0x9F ∷ 0x8C ∷ []) (refused (refusal 2 10))
     ∷ reads 0 0 (bytes "POINT(1x" ++ 0xFF ∷ []) (refused (refusal 2 8))
-    ∷ reads 40 9 (replicate 65536 0xFF) (refused (refusal 1 65535))
-    ∷ reads 40 9 (replicate 65537 0xFF) (refused (refusal 1 65535))
+    ∷ reads 40 9 (replicate 65536 0xFF) (refused (refusal 2 0))
+    ∷ reads 40 9 (replicate 65537 0xFF) (refused (refusal 2 0))
     ∷ []
 
 -- all that a reading computes with
@@ -198,3 +200,8 @@ pub every-refusal : All Holds refusals
 unfolding all refusals
 every-refusal =
     (refl, (refl, (refl, (refl, (refl, (refl, (refl, (refl, (refl, (refl, (refl, (refl, (refl, (refl, (refl, (refl, (refl, (refl, (refl, (refl, (refl, (refl, (refl, (refl, (refl, (refl, (refl, (refl, (refl, (refl, (refl, (refl, (refl, (refl, (refl, (refl, (refl, (refl, (refl, (refl, (refl, (refl, (refl, (refl, (refl, (refl, (refl, (refl, (refl, (refl, (refl, (refl, (refl, (refl, (refl, (refl, (refl, (refl, (refl, (refl, (refl, (refl, (refl, (refl, (refl, (refl, (refl, (refl, (refl, (refl, (refl, (refl, (refl, (refl, (refl, (refl, (refl, (refl, (refl, (refl, (refl, (refl, (refl, (refl, (refl, (refl, (refl, (refl, (refl, (refl, (refl, (refl, (refl, (refl, (refl, (refl, (refl, (refl, (refl, (refl, (refl, (refl, (refl, (refl, (refl, (refl, (refl, (refl, (refl, (refl, (refl, (refl, (refl, (refl, (refl, (refl, (refl, (refl, (refl, (refl, (refl, (refl, (refl, (refl, (refl, (refl, (refl, (refl, (refl, (refl, (refl, (refl, (refl, (refl, (refl, (refl, (refl, (refl, (refl, (refl, (refl, tt)))))))))))))))))))))))))))))))))))))))))))))))))))))))))))))))))))))))))))))))))))))))))))))))))))))))))))))))))))))))))))))))))))))))))))))
+
+-- 1 at 4,194,304 of every longer text, whatever it holds and whatever the rooms: so before 2 and before all that is met
+pub too-long : (N M : ℕ) (text : List ℕ) → overLimit (length text) ≡ true → reading N M text ≡ refused (refusal 1 4194304)
+unfolding reading
+too-long N M text over = rw over

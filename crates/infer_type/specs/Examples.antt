@@ -1,16 +1,17 @@
 -- Worked examples of this crate's definitions, by computation.
 use mathlib.Core.Path.{_≡_, refl}
 use mathlib.Core.List.{List, [], _∷_, _++_}
-use mathlib.Core.Bool.{not}
+use mathlib.Core.Bool.{true, not}
 use Prim.Native.Nat.{ℕ}
 use lib.Dec.{eqb}
-use lib.ListN.{replicate}
+use lib.ListN.{length, replicate}
 use Rattle.lists.specs.Lists.{passing, bytesThat}
 use Rattle.scan.specs.Text.{bytes}
 use Rattle.scan.specs.Runs.{run, firstNot}
 use Rattle.words.specs.Words.{startsWord}
 use Rattle.utf8.specs.Utf8.{table, fits, firstFit, charWidth, walk, firstIll}
 use Rattle.names.specs.Names.{stringOf, lookup, front}
+use Rattle.limits.specs.Limits.{overLimit}
 use Rattle.infer_type.specs.declared.Inferred.{Inferred}
 use Rattle.infer_type.specs.Part.{isTrimmed, isNoParen, trimmedAt, endAt, wideAt}
 use Rattle.infer_type.specs.Search.{hasWord, firstWord}
@@ -98,7 +99,12 @@ fours : (answers (bytes "POINT" ++ 0xF0 ∷ 0x9F ∷ 0x8C ∷ 0x8D ∷ bytes "("
 unfolding all
 fours = (refl, refl, refl, refl)
 
--- 1 before 2, at 65,535 whatever the length: texts of 65,536 and 65,537 bytes FF, and 70,000 of them behind `POINT(`
-long : (answers (replicate 65536 0xFF) (refused 1 65535)) × (answers (replicate 65537 0xFF) (refused 1 65535)) × (answers (bytes "POINT(" ++ replicate 70000 0xFF) (refused 1 65535))
+-- 1 at 4,194,304 of every longer text, whatever it holds: so before 2
+long : (text : List ℕ) → overLimit (length text) ≡ true → answers text (refused 1 4194304)
 unfolding all
-long = (refl, refl, refl)
+long text over = rw over
+
+-- and of no shorter one: of 65,535 bytes FF 2 comes first, and of 65,536, 65,537 and 70,000, which were too many once
+short : (answers (replicate 65535 0xFF) (refused 2 0)) × (answers (replicate 65536 0xFF) (refused 2 0)) × (answers (replicate 65537 0xFF) (refused 2 0)) × (answers (bytes "POINT(" ++ replicate 70000 0xFF) (refused 2 6))
+unfolding all
+short = (refl, refl, refl, refl)

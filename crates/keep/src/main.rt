@@ -1,4 +1,4 @@
-// Keeps the geometry that the text on standard input begins with: writes its tree to standard output as stored bytes (the crate `stored`). A refusal is
+// Keeps the geometry that the text on standard input begins with: writes its tree to standard output as stored bytes of version 1 (the crate `stored`), which every tree of a text that a program takes fits. A refusal is
 // told on standard error, as `keep: refused 13 at byte 8: Missing closing parenthesis for type`, and nothing is written.
 use console::INPUT_BYTES;
 use console::INPUT_LIMIT;
@@ -27,7 +27,7 @@ const KEPT_BYTES: usize = 8 + ENOUGH_ROWS * 7 + ENOUGH_ROWS * 3 + INPUT_LIMIT;
 
 // Writes the rows that were read as stored bytes.
 fn keep_rows(text: &[u8], nodes: &[u32], numbers: &[u32], kept: &mut [u8]) {
-    let wrote = stored::write(text, nodes, numbers, kept);
+    let wrote = stored::write_1(text, nodes, numbers, kept);
     if wrote.number != 0 {
         complain(&NAME, wrote.number, wrote.place, NO_EXPECTATION);
         return;

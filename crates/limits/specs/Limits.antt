@@ -3,9 +3,9 @@ use Prim.Native.Nat.{ℕ}
 use mathlib.Core.Bool.{Bool}
 use lib.Dec.{ltb}
 
--- "text over 65,535 bytes", and the place of that refusal
+-- "The text limit goes [..] to 4,194,304 bytes in refusal 1, its place and demands 1 to 3." (document 02, 2026-05)
 abbrev pub textLimit : ℕ
-textLimit = 65535
+textLimit = 4194304
 
 -- is a text of n bytes over the limit
 abbrev pub overLimit : ℕ → Bool

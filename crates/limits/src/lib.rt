@@ -4,7 +4,7 @@ ghost use lib.ListN.{length};
 ghost use Rattle.limits.specs.Limits.{textLimit, overLimit, depthLimit};
 
 // The longest text that is read, in bytes.
-pub const TEXT_LIMIT: usize = 65_535;
+pub const TEXT_LIMIT: usize = 4_194_304;
 
 // How many collections may be open, one in the other.
 pub const DEPTH_LIMIT: u32 = 32;

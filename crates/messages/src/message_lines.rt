@@ -1,7 +1,7 @@
 // The messages of the refusals, made by tools/refusals from crates/refusals/table.txt: the line at a
 // refusal's number is its message, from 0 on.
-pub(crate) const MESSAGE_LINES: [u8; 1245] = *b"No refusal\n\
-    More bytes than a text (65,535) or a stored tree (1,048,576) may have\n\
+pub(crate) const MESSAGE_LINES: [u8; 1227] = *b"No refusal\n\
+    More bytes than may be read; the place is the limit\n\
     The text is not well-formed UTF-8\n\
     No room for another node\n\
     No room for another number\n\

@@ -1,7 +1,7 @@
 -- The numbers of the refusals (document 01, "Refusal numbers"), each with the words that it is given for: made by tools/refusals from crates/refusals/table.txt.
 use Prim.Native.Nat.{ℕ}
 
--- "text over 65,535 bytes"
+-- "text over 4,194,304 bytes"
 abbrev pub textTooLong : ℕ
 textTooLong = 1
 

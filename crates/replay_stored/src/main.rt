@@ -20,20 +20,26 @@ use records::input::refill;
 use records::lines::put_bad_record;
 use records::parts::FIRST;
 use records::parts::field;
+use stored_form::Edition;
 
-const VERSION: usize = 1;
+// The line of a record of this letter and version.
+fn answer_version(record: &[u8], letter: u8, edition: Edition, out: &mut [u8], at: usize) -> usize {
+    match letter {
+        b'S' => writing::answer(record, edition, out, at),
+        b'L' => reading::answer(record, edition, out, at),
+        _ => put_bad_record(out, at),
+    }
+}
 
 // The line of a record, given what follows its count.
 fn answer(record: &[u8], out: &mut [u8], at: usize) -> usize {
     if record.len() == 0 {
         return put_bad_record(out, at);
     }
-    if field(record, FIRST) != VERSION {
-        return put_bad_record(out, at);
-    }
-    match record[0] {
-        b'S' => writing::answer(record, out, at),
-        b'L' => reading::answer(record, out, at),
+    let letter = record[0];
+    match field(record, FIRST) {
+        1 => answer_version(record, letter, Edition::First, out, at),
+        2 => answer_version(record, letter, Edition::Second, out, at),
         _ => put_bad_record(out, at),
     }
 }

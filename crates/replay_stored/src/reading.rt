@@ -6,20 +6,35 @@ use records::parts::SECOND;
 use records::parts::behind;
 use records::slices::MAX_SLICE;
 use records::slices::lent;
+use store::ReadAnswer;
+use stored_form::Edition;
+
+fn read_version(
+    data: &[u8],
+    edition: Edition,
+    nodes: &mut [u32],
+    numbers: &mut [u32],
+) -> ReadAnswer {
+    match edition {
+        Edition::First => stored::read_1(data, nodes, numbers),
+        Edition::Second => stored::read_2(data, nodes, numbers),
+    }
+}
 
 fn read_and_put(
     data: &[u8],
+    edition: Edition,
     nodes: &mut [u32],
     numbers: &mut [u32],
     out: &mut [u8],
     at: usize,
 ) -> usize {
-    let answer = stored::read(data, nodes, numbers);
+    let answer = read_version(data, edition, nodes, numbers);
     put_read(out, at, answer, nodes, numbers)
 }
 
 // The line of a record of this letter.
-pub(crate) fn answer(record: &[u8], out: &mut [u8], at: usize) -> usize {
+pub(crate) fn answer(record: &[u8], edition: Edition, out: &mut [u8], at: usize) -> usize {
     let mut nodes = [u32::MAX; MAX_SLICE];
     let mut numbers = [u32::MAX; MAX_SLICE];
     let slices = behind(record, SECOND);
@@ -30,6 +45,7 @@ pub(crate) fn answer(record: &[u8], out: &mut [u8], at: usize) -> usize {
         let number_places = asked.numbers;
         read_and_put(
             &slices[from..],
+            edition,
             &mut nodes[0..node_places],
             &mut numbers[0..number_places],
             out,

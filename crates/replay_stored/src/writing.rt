@@ -9,21 +9,37 @@ use records::parts::behind;
 use records::parts::field;
 use records::slices::MAX_SLICE;
 use records::slices::load;
+use store::WriteAnswer;
+use stored_form::Edition;
+
+fn write_version(
+    text: &[u8],
+    nodes: &[u32],
+    numbers: &[u32],
+    edition: Edition,
+    output: &mut [u8],
+) -> WriteAnswer {
+    match edition {
+        Edition::First => stored::write_1(text, nodes, numbers, output),
+        Edition::Second => stored::write_2(text, nodes, numbers, output),
+    }
+}
 
 fn write_and_put(
     text: &[u8],
     nodes: &[u32],
     numbers: &[u32],
+    edition: Edition,
     output: &mut [u8],
     out: &mut [u8],
     at: usize,
 ) -> usize {
-    let answer = stored::write(text, nodes, numbers, output);
+    let answer = write_version(text, nodes, numbers, edition, output);
     put_written(out, at, answer, output)
 }
 
 // The line of a record of this letter.
-pub(crate) fn answer(record: &[u8], out: &mut [u8], at: usize) -> usize {
+pub(crate) fn answer(record: &[u8], edition: Edition, out: &mut [u8], at: usize) -> usize {
     let bytes = field(record, SECOND);
     if MAX_OUTPUT < bytes {
         return put_bad_record(out, at);
@@ -41,6 +57,7 @@ pub(crate) fn answer(record: &[u8], out: &mut [u8], at: usize) -> usize {
             &slices[text..],
             &nodes[0..node_places],
             &numbers[0..number_places],
+            edition,
             &mut output[0..bytes],
             out,
             at,

@@ -3,8 +3,8 @@
 use mathlib.Core.Path.{_≡_}
 use Rattle.lists.specs.One.{One}
 use Rattle.lists.proofs.One.{one}
-use Rattle.stored_form.specs.declared.Version.{Version}
-use Rattle.stored_form.specs.Form.{version1}
+use Rattle.stored_form.specs.declared.Edition.{Edition}
+use Rattle.stored_form.specs.Form.{versionOf}
 
-pub version_1-one : One (λ r. _≡_ {A = Version} r version1)
-version_1-one = one
+pub version_of-one : (edition : Edition) → One (λ r. r ≡ versionOf edition)
+version_of-one edition = one

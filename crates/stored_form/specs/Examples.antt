@@ -17,7 +17,7 @@ use Rattle.shape.specs.Store.{areWhole, treeOf, wellFormed}
 use Rattle.fields.specs.Counts.{countAfter}
 use Rattle.fields.specs.Fields.{lengthIn, isField, isSized}
 use Rattle.stored_form.specs.declared.Version.{Version}
-use Rattle.stored_form.specs.Form.{version1}
+use Rattle.stored_form.specs.Form.{version1, version2}
 use Rattle.stored_form.specs.Reading.{isOtherVersion, headIn, fieldsFrom, placeAfter, roomed, checked, readingOf}
 
 -- `POINT(1 2)`: its head, its node, its numbers
@@ -41,23 +41,27 @@ read bytes = readingOf version1 9 9 bytes
 without : List ℕ → Outcome
 without bytes = readingOf version1 0 0 bytes
 
--- a version of the same form with a limit of 22 bytes, and one with counts of four bytes
+-- a version of the same form with a limit of 22 bytes
 short : Version
 short = record { number = 1; width = 2; largest = 65535; limit = 22 }
 
-wide : Version
-wide = record { number = 2; width = 4; largest = 4294967295; limit = 67108864 }
+-- `POINT(1 2)` in version 2, and that version with room enough and with none
+point-2 : List ℕ
+point-2 = 1 ∷ 0 ∷ 9 ∷ 2 ∷ 0 ∷ 0 ∷ 0 ∷ 1 ∷ 0 ∷ 0 ∷ 0 ∷ 2 ∷ 2 ∷ 0 ∷ 6 ∷ 1 ∷ 0 ∷ 0 ∷ 0 ∷ 0 ∷ 1 ∷ 3 ∷ 0 ∷ 1 ∷ 49 ∷ 3 ∷ 0 ∷ 1 ∷ 50 ∷ []
+
+read-2 : List ℕ → Outcome
+read-2 bytes = readingOf version2 9 9 bytes
 
 all : ℕ
-unfolding head node numbers point read without short wide flatRows flatSpans begins afterOne afterAll isNil sameWord isNamed isDigits isExponent isDecimal isUnsigned isLexeme every cell firsts rowsIn spansIn width flatMap rowsWith onFront asA times findText findRow exactlyOne atMostOne findParts findNode whole areNumbers areWhole treeOf wellFormed countAfter lengthIn isField isSized isOtherVersion headIn fieldsFrom placeAfter roomed checked readingOf
+unfolding head node numbers point read without short point-2 read-2 flatRows flatSpans begins afterOne afterAll isNil sameWord isNamed isDigits isExponent isDecimal isUnsigned isLexeme every cell firsts rowsIn spansIn width flatMap rowsWith onFront asA times findText findRow exactlyOne atMostOne findParts findNode whole areNumbers areWhole treeOf wellFormed countAfter lengthIn isField isSized isOtherVersion headIn fieldsFrom placeAfter roomed checked readingOf
 all = 0
 
--- a point; an empty collection; `MULTIPOINT Z((1 2 -3))`; and a point of a version with wider counts
+-- a point; an empty collection; `MULTIPOINT Z((1 2 -3))`; and a point of version 2
 accepted : (read point ≡ filled (row 1 0 1 ∷ []) (span 18 1 (49 ∷ []) ∷ span 22 1 (50 ∷ []) ∷ []))
     × (read (1 ∷ 0 ∷ 5 ∷ 1 ∷ 0 ∷ 1 ∷ 0 ∷ 0 ∷ 2 ∷ 0 ∷ 4 ∷ 7 ∷ 3 ∷ 0 ∷ 0 ∷ []) ≡ filled (row 7 3 0 ∷ []) [])
     × (read (1 ∷ 0 ∷ 5 ∷ 1 ∷ 0 ∷ 2 ∷ 0 ∷ 3 ∷ 2 ∷ 0 ∷ 4 ∷ 4 ∷ 1 ∷ 0 ∷ 1 ∷ 2 ∷ 0 ∷ 4 ∷ 1 ∷ 1 ∷ 0 ∷ 1 ∷ 3 ∷ 0 ∷ 1 ∷ 49 ∷ 3 ∷ 0 ∷ 1 ∷ 50 ∷ 3 ∷ 0 ∷ 2 ∷ 45 ∷ 51 ∷ [])
     ≡ filled (row 4 1 1 ∷ row 1 1 1 ∷ []) (span 25 1 (49 ∷ []) ∷ span 29 1 (50 ∷ []) ∷ span 33 2 (45 ∷ 51 ∷ []) ∷ []))
-    × (readingOf wide 1 2 (1 ∷ 0 ∷ 9 ∷ 2 ∷ 0 ∷ 0 ∷ 0 ∷ 1 ∷ 0 ∷ 0 ∷ 0 ∷ 2 ∷ 2 ∷ 0 ∷ 6 ∷ 1 ∷ 0 ∷ 0 ∷ 0 ∷ 0 ∷ 1 ∷ 3 ∷ 0 ∷ 1 ∷ 49 ∷ 3 ∷ 0 ∷ 1 ∷ 50 ∷ []) ≡ filled (row 1 0 1 ∷ []) (span 24 1 (49 ∷ []) ∷ span 28 1 (50 ∷ []) ∷ []))
+    × (readingOf version2 1 2 point-2 ≡ filled (row 1 0 1 ∷ []) (span 24 1 (49 ∷ []) ∷ span 28 1 (50 ∷ []) ∷ []))
 unfolding all
 accepted = (refl, refl, refl, refl)
 
@@ -67,9 +71,28 @@ unfolding all
 too-long = (refl, refl, refl)
 
 -- 26: another version, whatever the length says, and where nothing follows; not where the first byte isn't 1, nor where there is no byte 3
-other-version : (read (1 ∷ 255 ∷ 255 ∷ 2 ∷ []) ≡ refused 26 3) × (read (1 ∷ 0 ∷ 5 ∷ 0 ∷ 0 ∷ 1 ∷ 0 ∷ 2 ∷ []) ≡ refused 26 3) × (read (2 ∷ 0 ∷ 5 ∷ 2 ∷ []) ≡ refused 25 0) × (read (1 ∷ 0 ∷ 5 ∷ []) ≡ refused 25 0) × (readingOf wide 9 9 point ≡ refused 26 3)
+other-version : (read (1 ∷ 255 ∷ 255 ∷ 2 ∷ []) ≡ refused 26 3) × (read (1 ∷ 0 ∷ 5 ∷ 0 ∷ 0 ∷ 1 ∷ 0 ∷ 2 ∷ []) ≡ refused 26 3) × (read (2 ∷ 0 ∷ 5 ∷ 2 ∷ []) ≡ refused 25 0) × (read (1 ∷ 0 ∷ 5 ∷ []) ≡ refused 25 0)
 unfolding all
-other-version = (refl, refl, refl, refl, refl)
+other-version = (refl, refl, refl, refl)
+
+-- "that of version 1 must answer 26 on version 2 (1 still comes first), and the other way round": each knows its own version byte only. `01 FF FF 02` is 26 at 3 for
+-- version 1 and 25 at 0 for version 2; and a whole tree of the one version is 26 for the other
+each-its-own : (read (1 ∷ 255 ∷ 255 ∷ 2 ∷ []) ≡ refused 26 3) × (read-2 (1 ∷ 255 ∷ 255 ∷ 2 ∷ []) ≡ refused 25 0) × (read (1 ∷ 255 ∷ 255 ∷ 1 ∷ []) ≡ refused 25 0) × (read-2 (1 ∷ 255 ∷ 255 ∷ 1 ∷ []) ≡ refused 26 3)
+    × (read point-2 ≡ refused 26 3) × (read-2 point ≡ refused 26 3) × (read (1 ∷ 0 ∷ 5 ∷ 3 ∷ []) ≡ refused 26 3) × (read-2 (1 ∷ 0 ∷ 9 ∷ 3 ∷ []) ≡ refused 26 3) × (readingOf short 9 9 point-2 ≡ refused 1 22)
+unfolding all
+each-its-own = (refl, refl, refl, refl, refl, refl, refl, refl, refl)
+
+-- version 2 has none of version 1's lengths, nor the other way round: heads of 5 and of 9 bytes, nodes of 4 and of 6
+each-its-lengths : (read-2 (1 ∷ 0 ∷ 5 ∷ 2 ∷ 0 ∷ 1 ∷ 0 ∷ 2 ∷ (node ++ numbers)) ≡ refused 25 0) × (read (1 ∷ 0 ∷ 9 ∷ 1 ∷ 0 ∷ 0 ∷ 0 ∷ 1 ∷ 0 ∷ 0 ∷ 0 ∷ 2 ∷ (node ++ numbers)) ≡ refused 25 0) × (read-2 (take 12 point-2 ++ (node ++ numbers)) ≡ refused 25 12)
+    × (read (head ++ (2 ∷ 0 ∷ 6 ∷ 1 ∷ 0 ∷ 0 ∷ 0 ∷ 0 ∷ 1 ∷ numbers)) ≡ refused 25 8)
+unfolding all
+each-its-lengths = (refl, refl, refl, refl)
+
+-- of version 2 as of version 1: a head, a node and a number that are cut, what is left over, rows that there aren't, and what is no tree
+as-version-1 : (read-2 (take 11 point-2) ≡ refused 25 0) × (read-2 (take 20 point-2) ≡ refused 25 12) × (read-2 (take 28 point-2) ≡ refused 25 25) × (read-2 (point-2 ++ (0 ∷ [])) ≡ refused 25 29)
+    × (readingOf version2 0 0 point-2 ≡ refused 3 12) × (readingOf version2 1 0 point-2 ≡ refused 4 21) × (readingOf version2 1 1 point-2 ≡ refused 4 25) × (read-2 (take 12 point-2 ++ (2 ∷ 0 ∷ 6 ∷ 1 ∷ 0 ∷ 1 ∷ 0 ∷ 0 ∷ 1 ∷ numbers)) ≡ refused 22 0)
+unfolding all
+as-version-1 = (refl, refl, refl, refl, refl, refl, refl, refl)
 
 -- 25 at the head: missing; cut in the tag's length, in the content; of another tag; too short and too long
 head-faults : (read [] ≡ refused 25 0) × (read (1 ∷ 0 ∷ []) ≡ refused 25 0) × (read (take 7 point) ≡ refused 25 0) × (read (2 ∷ 0 ∷ 5 ∷ 1 ∷ 0 ∷ 1 ∷ 0 ∷ 2 ∷ []) ≡ refused 25 0) × (read (1 ∷ 0 ∷ 4 ∷ 1 ∷ 0 ∷ 1 ∷ 0 ∷ 2 ∷ []) ≡ refused 25 0) × (read (1 ∷ 0 ∷ 6 ∷ 1 ∷ 0 ∷ 1 ∷ 0 ∷ 2 ∷ 0 ∷ []) ≡ refused 25 0) × (read (1 ∷ 1 ∷ 5 ∷ 1 ∷ 0 ∷ 1 ∷ 0 ∷ 2 ∷ []) ≡ refused 25 0)

@@ -1,4 +1,4 @@
--- The stored form of a tree (document 02, 2026-01), over any version of it.
+-- The stored form of a tree (document 02, 2026-01 and 2026-05), over any version of it.
 use mathlib.Core.Path.{_≡_}
 use mathlib.Core.Bool.{Bool, cond, _&&_}
 use mathlib.Core.Option.{Option, none, some}
@@ -16,11 +16,22 @@ use Rattle.shape.specs.Store.{treeOf}
 use Rattle.fields.specs.Counts.{byte, countBytes}
 use Rattle.fields.specs.Fields.{headLength, longest, field}
 use Rattle.stored_form.specs.declared.Version.{Version}
+use Rattle.stored_form.specs.declared.Edition.{Edition}
+use Rattle.stored_form.specs.declared.Edition.the-variants.{First, Second}
 
 -- ---- versions
 -- "version 1 (one byte), node count, number count (two bytes each)"; "1 over 1,048,576 bytes"
 abbrev pub version1 : Version
 version1 = record { number = 1; width = 2; largest = 65535; limit = 1048576 }
+
+-- "stored version 2 has four-byte counts and parts, with a whole limit of 67,108,864 bytes; the field length remains two bytes"
+abbrev pub version2 : Version
+version2 = record { number = 2; width = 4; largest = 4294967295; limit = 67108864 }
+
+-- "Each version has its own entry"
+abbrev pub versionOf : Edition → Version
+versionOf First = version1
+versionOf Second = version2
 
 -- what a version may be
 pub record Known (v : Version) : Type 0 where

@@ -20,7 +20,8 @@ use Rattle.shape.specs.Store.{areWhole, treeOf}
 use Rattle.fields.specs.Counts.{countBytes}
 use Rattle.fields.specs.Fields.{field}
 use Rattle.stored_form.specs.declared.Version.{Version}
-use Rattle.stored_form.specs.Form.{version1, headField, nodeField, numberField, storedRows, fitsRows, storedOf}
+use Rattle.stored_form.specs.declared.Edition.the-variants.{First, Second}
+use Rattle.stored_form.specs.Form.{version1, version2, versionOf, headField, nodeField, numberField, storedRows, fitsRows, storedOf}
 
 abbrev one : List ℕ
 one = text.bytes "1"
@@ -53,6 +54,13 @@ all = 0
 version-1 : (version1 .number ≡ 1) × (version1 .width ≡ 2) × (version1 .largest ≡ 65535) × (version1 .limit ≡ 1048576)
 version-1 = (refl, refl, refl, refl)
 
+-- "stored version 2 has four-byte counts and parts", so counts up to 4,294,967,295, "with a whole limit of 67,108,864 bytes"
+version-2 : (version2 .number ≡ 2) × (version2 .width ≡ 4) × (version2 .largest ≡ 4294967295) × (version2 .limit ≡ 67108864)
+version-2 = (refl, refl, refl, refl)
+
+editions : (versionOf First ≡ version1) × (versionOf Second ≡ version2)
+editions = (refl, refl)
+
 -- a head, then a node, then its numbers
 a-point : storedRows version1 point (one ∷ two ∷ []) ≡ 1 ∷ 0 ∷ 5 ∷ 1 ∷ 0 ∷ 1 ∷ 0 ∷ 2 ∷ 2 ∷ 0 ∷ 4 ∷ 1 ∷ 0 ∷ 0 ∷ 1 ∷ 3 ∷ 0 ∷ 1 ∷ 49 ∷ 3 ∷ 0 ∷ 1 ∷ 50 ∷ []
 unfolding all
@@ -62,6 +70,15 @@ an-empty-collection : storedRows version1 emptyCollection [] ≡ 1 ∷ 0 ∷ 5 �
 unfolding all
 an-empty-collection = refl
 
+-- the same of version 2: its counts and parts have four bytes, its lengths two
+a-point-of-2 : storedRows version2 point (one ∷ two ∷ []) ≡ 1 ∷ 0 ∷ 9 ∷ 2 ∷ 0 ∷ 0 ∷ 0 ∷ 1 ∷ 0 ∷ 0 ∷ 0 ∷ 2 ∷ 2 ∷ 0 ∷ 6 ∷ 1 ∷ 0 ∷ 0 ∷ 0 ∷ 0 ∷ 1 ∷ 3 ∷ 0 ∷ 1 ∷ 49 ∷ 3 ∷ 0 ∷ 1 ∷ 50 ∷ []
+unfolding all
+a-point-of-2 = refl
+
+an-empty-collection-of-2 : storedRows version2 emptyCollection [] ≡ 1 ∷ 0 ∷ 9 ∷ 2 ∷ 0 ∷ 0 ∷ 0 ∷ 1 ∷ 0 ∷ 0 ∷ 0 ∷ 0 ∷ 2 ∷ 0 ∷ 6 ∷ 7 ∷ 0 ∷ 0 ∷ 0 ∷ 0 ∷ 0 ∷ []
+unfolding all
+an-empty-collection-of-2 = refl
+
 a-polygon : storedRows version1 polygon (one ∷ two ∷ three ∷ []) ≡ 1 ∷ 0 ∷ 5 ∷ 1 ∷ 0 ∷ 2 ∷ 0 ∷ 3 ∷ 2 ∷ 0 ∷ 4 ∷ 3 ∷ 1 ∷ 0 ∷ 1 ∷ 2 ∷ 0 ∷ 4 ∷ 2 ∷ 1 ∷ 0 ∷ 1 ∷ 3 ∷ 0 ∷ 1 ∷ 49 ∷ 3 ∷ 0 ∷ 1 ∷ 50 ∷ 3 ∷ 0 ∷ 2 ∷ 45 ∷ 51 ∷ []
 unfolding all
 a-polygon = refl
@@ -70,6 +87,11 @@ a-polygon = refl
 wide-parts : nodeField 2 (nodeRow kindGeometryCollection dimXYZM 258 []) ≡ 2 ∷ 0 ∷ 4 ∷ 7 ∷ 3 ∷ 1 ∷ 2 ∷ []
 unfolding all
 wide-parts = refl
+
+-- and so are those of four bytes: 65,536 parts, which no two bytes say, are 0, 1, 0, 0; 16,909,060 are 1, 2, 3, 4; and counts as well
+wider-parts : (nodeField 4 (nodeRow kindGeometryCollection dimXYZM 65536 []) ≡ 2 ∷ 0 ∷ 6 ∷ 7 ∷ 3 ∷ 0 ∷ 1 ∷ 0 ∷ 0 ∷ []) × (nodeField 4 (nodeRow kindLineString dimXY 16909060 []) ≡ 2 ∷ 0 ∷ 6 ∷ 2 ∷ 0 ∷ 1 ∷ 2 ∷ 3 ∷ 4 ∷ []) × (headField version2 65536 16909060 ≡ 1 ∷ 0 ∷ 9 ∷ 2 ∷ 0 ∷ 1 ∷ 0 ∷ 0 ∷ 1 ∷ 2 ∷ 3 ∷ 4 ∷ [])
+unfolding all
+wider-parts = (refl, refl, refl)
 
 -- ---- "27 where a count, a text or the whole doesn't fit the form": each by itself, and just not
 -- two nodes and three numbers: the node count, the number count
@@ -86,6 +108,17 @@ parts = (refl, refl)
 texts : (fitsRows (small 1 70000) [] (replicate 65535 49 ∷ []) ≡ true) × (fitsRows (small 1 70000) [] (replicate 65536 49 ∷ []) ≡ false)
 unfolding all
 texts = (refl, refl)
+
+-- "a number text over 65,535 bytes fits neither version": of 65,536 bytes the low 16 bits would say 0, of 65,537 they would say 1
+texts-in-both : (fitsRows version1 point (one ∷ replicate 65535 49 ∷ []) ≡ true) × (fitsRows version1 point (one ∷ replicate 65536 49 ∷ []) ≡ false) × (fitsRows version1 point (one ∷ replicate 65537 49 ∷ []) ≡ false)
+    × (fitsRows version2 point (one ∷ replicate 65535 49 ∷ []) ≡ true) × (fitsRows version2 point (one ∷ replicate 65536 49 ∷ []) ≡ false) × (fitsRows version2 point (one ∷ replicate 65537 49 ∷ []) ≡ false)
+unfolding all
+texts-in-both = (refl, refl, refl, refl, refl, refl)
+
+-- parts that version 1 can't count fit version 2, up to the last that four bytes say
+parts-in-both : (fitsRows version1 (nodeOver kindLineString dimXY 65535 []) [] ≡ true) × (fitsRows version1 (nodeOver kindLineString dimXY 65536 []) [] ≡ false) × (fitsRows version2 (nodeOver kindLineString dimXY 65536 []) [] ≡ true) × (fitsRows version2 (nodeOver kindLineString dimXY 4294967295 []) [] ≡ true) × (fitsRows version2 (nodeOver kindLineString dimXY 4294967296 []) [] ≡ false)
+unfolding all
+parts-in-both = (refl, refl, refl, refl, refl)
 
 -- the whole: 20 bytes
 in-all : (length (storedRows (small 2 0) point (one ∷ two ∷ [])) ≡ 20) × (fitsRows (small 2 20) point (one ∷ two ∷ []) ≡ true) × (fitsRows (small 2 19) point (one ∷ two ∷ []) ≡ false)

@@ -1,7 +1,7 @@
-// The stored form of a tree (document 02, 2026-01), nearly without code: what a version of the form has of its own, and what a head tells. Its fields
+// The stored form of a tree (document 02, 2026-01 and 2026-05), nearly without code: what a version of the form has of its own, and what a head tells. Its fields
 // and what reading any bytes comes to are in specs.
 ghost use mathlib.Core.Path.{_≡_};
-ghost use Rattle.stored_form.specs.Form.{version1};
+ghost use Rattle.stored_form.specs.Form.{versionOf};
 
 pub const HEAD_TAG: u8 = 1;
 
@@ -16,6 +16,12 @@ pub struct Version {
     pub width: usize,
     pub largest: usize,
     pub limit: usize,
+}
+
+// Which version: the first, or the second, whose counts have more bytes.
+pub enum Edition {
+    First,
+    Second,
 }
 
 // How many nodes and how many numbers the head tells of.
@@ -36,13 +42,21 @@ pub enum Seen {
     Whole(bool, usize),
 }
 
-pub fn version_1() -> Version
-    ensures { λ r. ⌜ r ≡ version1 ⌝ }
+pub fn version_of(edition: Edition) -> Version
+    ensures { λ r. ⌜ r ≡ versionOf edition ⌝ }
 {
-    Version {
-        number: 1,
-        width: 2,
-        largest: 65_535,
-        limit: 1_048_576,
+    match edition {
+        Edition::First => Version {
+            number: 1,
+            width: 2,
+            largest: 65_535,
+            limit: 1_048_576,
+        },
+        Edition::Second => Version {
+            number: 2,
+            width: 4,
+            largest: 4_294_967_295,
+            limit: 67_108_864,
+        },
     }
 }

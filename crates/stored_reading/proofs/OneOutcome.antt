@@ -6,8 +6,9 @@ use mathlib.Core.List.{List}
 use Rattle.store.specs.declared.ReadAnswer.{ReadAnswer}
 use Rattle.store.specs.Rows.{nodeRoom, numberRoom}
 use Rattle.store.specs.Answers.{Leaves, leaves-one}
-use Rattle.stored_form.specs.Form.{version1}
+use Rattle.stored_form.specs.declared.Edition.{Edition}
+use Rattle.stored_form.specs.Form.{versionOf}
 use Rattle.stored_form.specs.Reading.{readingOf}
 
-pub read-one : (bytes ns ms : List ℕ) {a a′ : ReadAnswer} {ns′ ns″ ms′ ms″ : List ℕ} → Leaves (readingOf version1 (nodeRoom ns) (numberRoom ms) bytes) ns ms a ns′ ms′ → Leaves (readingOf version1 (nodeRoom ns) (numberRoom ms) bytes) ns ms a′ ns″ ms″ → (a ≡ a′) × (ns′ ≡ ns″) × (ms′ ≡ ms″)
-read-one bytes ns ms x y = leaves-one x y
+pub read-one : (bytes : List ℕ) (edition : Edition) (ns ms : List ℕ) {a a′ : ReadAnswer} {ns′ ns″ ms′ ms″ : List ℕ} → Leaves (readingOf (versionOf edition) (nodeRoom ns) (numberRoom ms) bytes) ns ms a ns′ ms′ → Leaves (readingOf (versionOf edition) (nodeRoom ns) (numberRoom ms) bytes) ns ms a′ ns″ ms″ → (a ≡ a′) × (ns′ ≡ ns″) × (ms′ ≡ ms″)
+read-one bytes edition ns ms x y = leaves-one x y

@@ -1,5 +1,5 @@
-// Reading a stored tree: the head, then every field is looked at before a row is asked for, then the rows are put. The reader is made over any version of
-// the form; a version's entry names it.
+// Reading a stored tree: the head, then every field is looked at before a row is asked for, then the rows are put. The reader is one for all versions of
+// the form.
 use fields::HEAD;
 use refusals::FAULTY_FIELD;
 use refusals::ILL_FORMED_STORE;
@@ -9,6 +9,7 @@ use refusals::TEXT_TOO_LONG;
 use refusals::UNKNOWN_VERSION;
 use store::ReadAnswer;
 use stored_form::Counts;
+use stored_form::Edition;
 use stored_form::HEAD_TAG;
 use stored_form::Head;
 use stored_form::NODE_TAG;
@@ -22,7 +23,7 @@ ghost use Prim.Native.Nat.{_≤_, _<_, _^_};
 ghost use lib.ListN.{length};
 ghost use Rattle.store.specs.Rows.{nodeRoom, numberRoom, flatRows, flatSpans};
 ghost use Rattle.store.specs.Answers.{Leaves};
-ghost use Rattle.stored_form.specs.Form.{version1, Known};
+ghost use Rattle.stored_form.specs.Form.{versionOf, Known};
 ghost use Rattle.stored_form.specs.Reading.{headIn, nodesFrom, numbersFrom, placeAfter, readingOf, Right};
 ghost use Rattle.stored_reading.specs.Looks.{nodesSeen, headedOf, Headed, NodesSeen, NumbersGood, Filled};
 
@@ -241,10 +242,10 @@ fn read_version(bytes: &[u8], v: Version, nodes: &mut [u32], numbers: &mut [u32]
     }
 }
 
-// Reads stored bytes of version 1 into rows of both slices. Spans point into `bytes`. Every place after the used rows is zero, and on a refusal every
+// Reads stored bytes of a version into rows of both slices. Spans point into `bytes`. Every place after the used rows is zero, and on a refusal every
 // place.
-pub fn read(bytes: &[u8], nodes: &mut [u32], numbers: &mut [u32]) -> ReadAnswer
-    ensures { λ a. ⌜ Leaves (readingOf version1 (nodeRoom (now (nodes .entry))) (numberRoom (now (numbers .entry))) (now (bytes .entry))) (now (nodes .entry)) (now (numbers .entry)) a (now (nodes .exit)) (now (numbers .exit)) ⌝ }
+pub fn read(bytes: &[u8], edition: Edition, nodes: &mut [u32], numbers: &mut [u32]) -> ReadAnswer
+    ensures { λ a. ⌜ Leaves (readingOf (versionOf edition) (nodeRoom (now (nodes .entry))) (numberRoom (now (numbers .entry))) (now (bytes .entry))) (now (nodes .entry)) (now (numbers .entry)) a (now (nodes .exit)) (now (numbers .exit)) ⌝ }
 {
-    read_version(bytes, stored_form::version_1(), nodes, numbers)
+    read_version(bytes, stored_form::version_of(edition), nodes, numbers)
 }

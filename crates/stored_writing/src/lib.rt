@@ -1,5 +1,5 @@
-// Writing a store as stored bytes: it is checked, then measured, then its fields are put. The writer is made over any version of the form; a version's
-// entry names it.
+// Writing a store as stored bytes: it is checked, then measured, then its fields are put. The writer is one for all versions of the
+// form.
 use fields::HEAD;
 use fields::LONGEST;
 use pen::Pen;
@@ -7,6 +7,7 @@ use refusals::DOES_NOT_FIT;
 use refusals::ILL_FORMED_STORE;
 use refusals::NO_ROOM;
 use store::WriteAnswer;
+use stored_form::Edition;
 use stored_form::HEAD_TAG;
 use stored_form::NODE_TAG;
 use stored_form::NUMBER_TAG;
@@ -20,7 +21,7 @@ ghost use Rattle.store.specs.Rows.{nodeRoom};
 ghost use Rattle.store.specs.Answers.{bytes, Writes};
 ghost use Rattle.pen.specs.Pen.{Emits};
 ghost use Rattle.shape.specs.Store.{allRows, allTexts};
-ghost use Rattle.stored_form.specs.Form.{version1, Known, headField, nodeField, numberField, storedRows, storedOf};
+ghost use Rattle.stored_form.specs.Form.{versionOf, Known, headField, nodeField, numberField, storedRows, storedOf};
 ghost use Rattle.stored_writing.specs.Writing.{lengthsIn, numbersMeasure, measureOf, SmallRow, HasRoom};
 
 // The most bytes that a head's content can have, and a node's: with counts of four bytes.
@@ -156,9 +157,15 @@ fn write_version(
     put_tree(text, nodes, numbers, v, out)
 }
 
-// Writes a store as stored bytes of version 1; what lies after them in the room is zero.
-pub fn write(text: &[u8], nodes: &[u32], numbers: &[u32], out: &mut [u8]) -> WriteAnswer
-    ensures { λ r. ⌜ Writes (storedOf version1 (now (text .entry)) (now (nodes .entry)) (now (numbers .entry))) (length (now (out .entry))) r (now (out .exit)) ⌝ }
+// Writes a store as stored bytes of a version; what lies after them in the room is zero.
+pub fn write(
+    text: &[u8],
+    nodes: &[u32],
+    numbers: &[u32],
+    edition: Edition,
+    out: &mut [u8],
+) -> WriteAnswer
+    ensures { λ r. ⌜ Writes (storedOf (versionOf edition) (now (text .entry)) (now (nodes .entry)) (now (numbers .entry))) (length (now (out .entry))) r (now (out .exit)) ⌝ }
 {
-    write_version(text, nodes, numbers, stored_form::version_1(), out)
+    write_version(text, nodes, numbers, stored_form::version_of(edition), out)
 }

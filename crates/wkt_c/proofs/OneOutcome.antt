@@ -11,18 +11,19 @@ use Rattle.grammar.specs.Reading.{reading}
 use Rattle.wkt.specs.Leaves.{outcomeOf}
 use Rattle.to_wkt.specs.Canonical.{storeText}
 use Rattle.to_wkt.specs.Write.{outputOf}
-use Rattle.stored_form.specs.Form.{version1, storedOf}
+use Rattle.stored_form.specs.Form.{version1, version2, storedOf}
 use Rattle.stored_form.specs.Reading.{readingOf}
 use Rattle.lists.specs.One.{One}
 use Rattle.lists.proofs.One.{one}
 use Rattle.rooms.specs.Rooms.{enoughRows}
 use Rattle.strict.specs.Strict.{strictOf}
 use Rattle.infer_type.specs.Infer.{inferType}
+use Rattle.token.specs.Tokens.{readAt}
 use Rattle.expected.specs.Expected.{expectedOf}
 use Rattle.bounds.specs.declared.BoxAnswer.{BoxAnswer}
 use Rattle.bounds.specs.Bounds.{boxRoom}
 use Rattle.node_boxes.specs.Boxes.{boxesOf, answerOf, usedBoxes}
-use Rattle.c_answers.specs.Answers.{strictPlaces, inferPlaces, ReadsInto, WritesInto, BoxesInto}
+use Rattle.c_answers.specs.Answers.{strictPlaces, inferPlaces, tokenPlaces, ReadsInto, WritesInto, BoxesInto}
 
 pub doorhollow_enough_rows-one : (bytes : ℕ) → One (λ r. r ≡ enoughRows bytes)
 doorhollow_enough_rows-one bytes = one
@@ -46,12 +47,18 @@ module _ (text ns ms : List ℕ) {ns′ ns″ ms′ ms″ answer answer′ : Lis
   pub doorhollow_read_stored_1-one : ReadsInto (readingOf version1 (nodeRoom ns) (numberRoom ms) text) ns ms ns′ ms′ answer → ReadsInto (readingOf version1 (nodeRoom ns) (numberRoom ms) text) ns ms ns″ ms″ answer′ → (ns′ ≡ ns″) × (ms′ ≡ ms″) × (answer ≡ answer′)
   doorhollow_read_stored_1-one = reads-one
 
+  pub doorhollow_read_stored_2-one : ReadsInto (readingOf version2 (nodeRoom ns) (numberRoom ms) text) ns ms ns′ ms′ answer → ReadsInto (readingOf version2 (nodeRoom ns) (numberRoom ms) text) ns ms ns″ ms″ answer′ → (ns′ ≡ ns″) × (ms′ ≡ ms″) × (answer ≡ answer′)
+  doorhollow_read_stored_2-one = reads-one
+
 module _ (text nodes numbers out : List ℕ) {out′ out″ answer answer′ : List ℕ} where
   pub doorhollow_write-one : WritesInto (outputOf (storeText text nodes numbers)) (length out) out′ answer → WritesInto (outputOf (storeText text nodes numbers)) (length out) out″ answer′ → (out′ ≡ out″) × (answer ≡ answer′)
   doorhollow_write-one = writes-one
 
   pub doorhollow_write_stored_1-one : WritesInto (storedOf version1 text nodes numbers) (length out) out′ answer → WritesInto (storedOf version1 text nodes numbers) (length out) out″ answer′ → (out′ ≡ out″) × (answer ≡ answer′)
   doorhollow_write_stored_1-one = writes-one
+
+  pub doorhollow_write_stored_2-one : WritesInto (storedOf version2 text nodes numbers) (length out) out′ answer → WritesInto (storedOf version2 text nodes numbers) (length out) out″ answer′ → (out′ ≡ out″) × (answer ≡ answer′)
+  doorhollow_write_stored_2-one = writes-one
 
 module _ (text nodes numbers : List ℕ) (t : List ℤ) {t′ t″ : List ℤ} {answer answer′ : List ℕ} where
   pub doorhollow_boxes-one : BoxesInto (answerOf (boxesOf text nodes numbers (boxRoom t))) (usedBoxes (boxesOf text nodes numbers (boxRoom t))) t t′ answer → BoxesInto (answerOf (boxesOf text nodes numbers (boxRoom t))) (usedBoxes (boxesOf text nodes numbers (boxRoom t))) t t″ answer′ → (t′ ≡ t″) × (answer ≡ answer′)
@@ -65,3 +72,7 @@ doorhollow_infer_type-one text = one
 
 pub doorhollow_expected-one : (text : List ℕ) (number place : ℕ) → One (λ r. r ≡ expectedOf text number place)
 doorhollow_expected-one text number place = one
+
+-- the place to ask from next, and the answer
+pub doorhollow_token-one : (text : List ℕ) (from : ℕ) {r r′ : ℕ} {answer answer′ : List ℕ} → (r ≡ readAt text from .at) × (answer ≡ tokenPlaces (readAt text from .found)) → (r′ ≡ readAt text from .at) × (answer′ ≡ tokenPlaces (readAt text from .found)) → (r ≡ r′) × (answer ≡ answer′)
+doorhollow_token-one text from x y = (x .0 ∙ sym (y .0), x .1 ∙ sym (y .1))

@@ -43,7 +43,7 @@ fn fixed() -> Vec<Case> {
     cases
 }
 
-fn boxes(lent: &Lent, table: u32) -> Case {
+pub fn boxes(lent: &Lent, table: u32) -> Case {
     let rows = lent.rows.clone();
     Case {
         request: Request::Boxes { table, rows },
@@ -52,7 +52,7 @@ fn boxes(lent: &Lent, table: u32) -> Case {
 }
 
 /// The places that the rows of a store need.
-fn needed(lent: &Lent) -> u32 {
+pub fn needed(lent: &Lent) -> u32 {
     (ROW_PLACES * lent.rows.nodes.len() / 3) as u32
 }
 

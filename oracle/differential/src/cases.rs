@@ -100,6 +100,27 @@ impl Case {
             text: &self.text,
         }
     }
+
+    /// About how many bytes the record and its line have.
+    pub fn size(&self) -> usize {
+        let rows = 4 * places(&self.request);
+        // How many values are printed at most, and about how long they are.
+        let (values, bytes) = match &self.request {
+            Request::Take { count, .. } | Request::LookAndTake { count, .. } => (*count, 20),
+            Request::Read { nodes, numbers } => (nodes + numbers, 2),
+            Request::ReadStored { nodes, numbers, .. } => (nodes + numbers, 2),
+            Request::Write { output, .. } | Request::WriteStored { output, .. } => (*output, 2),
+            Request::Boxes { table, .. } => (*table, 8),
+            Request::Check { .. } | Request::Infer => (0, 0),
+        };
+        self.text.len() + rows + values as usize * bytes
+    }
+}
+
+/// How many places the rows of a request have.
+pub fn places(request: &Request) -> usize {
+    let rows = request.rows();
+    rows.map_or(0, |rows| rows.nodes.len() + rows.numbers.len())
 }
 
 pub fn encode(cases: &[Case]) -> Vec<u8> {

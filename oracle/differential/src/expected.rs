@@ -6,20 +6,21 @@ use crate::any_bytes;
 use crate::boxes;
 use crate::cases::Case;
 use crate::model::{self, Limits, Refusal, Store, NO_NODE_ROW, NO_NUMBER_ROW, TOO_DEEP};
-use crate::stored::{self, Room, NO_FIT};
+use crate::stored::{self, Room, Version, NO_FIT};
 use crate::stores::{self, ILL_FORMED, MAX_DEPTH, NO_ROOM};
 use driver::inferred::{self, Inference};
 use driver::reader::{self, Reading, Tree};
 use driver::record::{Request, Rows};
-use driver::tokens::{self, Demand, Seen, Span};
+use driver::tokens::{self, Demand, Placed, Seen, Span};
+use std::fmt::{Display, Write};
 
 // More refusals of document 01 that the Rust doesn't have.
 const TEXT_TOO_LONG: u32 = 1;
 const ILL_FORMED_UTF8: u32 = 2;
 const NON_ASCII: u32 = 24;
 
-/// The reader and infer_type refuse longer texts.
-const MAX_READ_BYTES: usize = 65_535;
+/// The reader and infer_type refuse longer texts (request 2026-05).
+pub const MAX_READ_BYTES: usize = 4_194_304;
 
 /// What an expected line rests on.
 #[derive(Clone, Copy, Debug, PartialEq, Eq)]
@@ -74,12 +75,21 @@ pub fn expected(case: &Case) -> Expected {
         }
         Request::Check { rows } => Expected::of_store(checking_line(&case.text, rows)),
         Request::Infer => Expected::by_rust(inference_line(&case.text)),
-        Request::WriteStored { output, rows } => {
-            Expected::of_store(stored_writing_line(&case.text, rows, *output))
+        Request::WriteStored {
+            version,
+            output,
+            rows,
+        } => {
+            let version = Version::of(*version);
+            Expected::of_store(stored_writing_line(&case.text, version, rows, *output))
         }
-        Request::ReadStored { nodes, numbers } => {
+        Request::ReadStored {
+            version,
+            nodes,
+            numbers,
+        } => {
             let room = Room::of(*nodes, *numbers);
-            Expected::of_store(stored_reading_line(&case.text, room))
+            Expected::of_store(stored_reading_line(&case.text, Version::of(*version), room))
         }
         Request::Boxes { table, rows } => Expected::of_store(boxes_line(&case.text, rows, *table)),
     }
@@ -101,12 +111,13 @@ fn reading(bytes: &[u8], node_places: u32, number_places: u32) -> Expected {
         depth: MAX_DEPTH,
     };
     let by_rust = reader::read(text);
-    let model_alone = model::read(text, Limits::NONE);
+    let tokens = model::tokens_of(text);
+    let model_alone = model::read_tokens(text, &tokens, Limits::NONE);
     assert!(
         is_same(text, &by_rust, &model_alone),
         "the model reads {text:?} otherwise than the Rust"
     );
-    let limited = model::read(text, limits);
+    let limited = model::read_tokens(text, &tokens, limits);
     match (by_rust, limited.err()) {
         (by_rust, Some(at_limit)) if is_limit(at_limit.number) => {
             assert!(may_end_at(&by_rust, at_limit.number, limits));
@@ -118,7 +129,7 @@ fn reading(bytes: &[u8], node_places: u32, number_places: u32) -> Expected {
         }
         (Reading::Accepted(tree), None) => {
             assert!(passed_limits(&tree, limits).is_empty());
-            Expected::by_rust(accepted_line(text, &tree))
+            Expected::by_rust(accepted_line(text, &tokens, &tree))
         }
         _ => panic!("the limits change how the model reads {text:?}"),
     }
@@ -170,10 +181,8 @@ fn passed_limits(tree: &Tree, limits: Limits) -> Vec<u32> {
 
 /// The tree with the places of its numbers: an accepted text's number tokens are,
 /// from its start on, exactly those of the tree.
-fn accepted_line(text: &str, tree: &Tree) -> String {
-    let count = text.len() + 1;
-    let tokens = tokens::take(text, 0, count, Demand::Take).expect("0 is a character's place");
-    let spans = tokens.into_iter().filter_map(|token| match token.seen {
+fn accepted_line(text: &str, tokens: &[Placed], tree: &Tree) -> String {
+    let spans = tokens.iter().filter_map(|token| match token.seen {
         Seen::Number(span) => Some(span),
         _ => None,
     });
@@ -211,8 +220,13 @@ fn written_line(written: &[u8], room: u32) -> String {
     if written.len() > room as usize {
         return refused_writing(NO_ROOM);
     }
-    let hex: String = written.iter().map(|byte| format!("{byte:02x}")).collect();
-    format!("0 0 {} ; {hex} ; 0", written.len())
+    format!("0 0 {} ; {} ; 0", written.len(), hex(written))
+}
+
+fn hex(bytes: &[u8]) -> String {
+    let digit = |value: u8| char::from(b"0123456789abcdef"[usize::from(value)]);
+    let digits = bytes.iter().flat_map(|byte| [byte / 16, byte % 16]);
+    digits.map(digit).collect()
 }
 
 /// Whether the Rust reads a canonical text to the nodes and the number texts of rows.
@@ -233,14 +247,14 @@ fn number_texts<'both>(text: &'both [u8], rows: &'both Rows) -> impl Iterator<It
     spans.map(|span| &text[span[0] as usize..][..span[1] as usize])
 }
 
-fn stored_writing_line(text: &[u8], rows: &Rows, room: u32) -> String {
+fn stored_writing_line(text: &[u8], version: Version, rows: &Rows, room: u32) -> String {
     let Ok(root) = stores::tree(text, rows) else {
         return refused_writing(ILL_FORMED);
     };
-    let Some(written) = stored::written(&root) else {
+    let Some(written) = stored::written(&root, version) else {
         return refused_writing(NO_FIT);
     };
-    let again = stored::read(&written, Room::ANY);
+    let again = stored::read(&written, version, Room::ANY);
     let is_same = again.is_ok_and(|read| {
         read.nodes == rows.nodes && number_texts(&written, &read).eq(number_texts(text, rows))
     });
@@ -248,15 +262,15 @@ fn stored_writing_line(text: &[u8], rows: &Rows, room: u32) -> String {
     written_line(&written, room)
 }
 
-fn stored_reading_line(bytes: &[u8], room: Room) -> String {
-    let rows = match stored::read(bytes, room) {
+fn stored_reading_line(bytes: &[u8], version: Version, room: Room) -> String {
+    let rows = match stored::read(bytes, version, room) {
         Ok(rows) => rows,
         Err(refusal) => return format!("{} {} 0 0 ;  ;  ; 0", refusal.number(), refusal.place),
     };
     let root = stores::tree(bytes, &rows).ok();
     let root = root.expect("what is read is well formed");
     assert!(
-        stored::written(&root).is_some_and(|written| written == bytes),
+        stored::written(&root, version).is_some_and(|written| written == bytes),
         "what was read is written as other bytes"
     );
     assert!(
@@ -268,17 +282,23 @@ fn stored_reading_line(bytes: &[u8], room: Room) -> String {
 
 /// The rows of an accepted reading.
 fn rows_line(rows: &Rows) -> String {
-    let places = |slice: &[u32]| {
-        let places = slice.iter().map(u32::to_string);
-        places.collect::<Vec<_>>().join(" ")
-    };
     format!(
         "0 0 {} {} ; {} ; {} ; 0",
         rows.nodes.len() / 3,
         rows.numbers.len() / 2,
-        places(&rows.nodes),
-        places(&rows.numbers)
+        spaced(&rows.nodes),
+        spaced(&rows.numbers)
     )
+}
+
+/// The values, one space between.
+fn spaced<'all, T: Display + 'all>(values: impl IntoIterator<Item = &'all T>) -> String {
+    let mut line = String::new();
+    for value in values {
+        let space = if line.is_empty() { "" } else { " " };
+        write!(line, "{space}{value}").expect("a string takes everything");
+    }
+    line
 }
 
 fn checking_line(text: &[u8], rows: &Rows) -> String {
@@ -292,8 +312,7 @@ fn checking_line(text: &[u8], rows: &Rows) -> String {
 fn boxes_line(text: &[u8], rows: &Rows, places: u32) -> String {
     match boxes::table(text, rows, places as usize) {
         Ok(table) => {
-            let values = table.iter().flatten().map(i64::to_string);
-            format!("0 0 ; {} ; 0", values.collect::<Vec<_>>().join(" "))
+            format!("0 0 ; {} ; 0", spaced(table.iter().flatten()))
         }
         Err(refusal) => format!("{} {} ;  ; 0", refusal.number(), refusal.place),
     }
@@ -408,21 +427,66 @@ mod tests {
             nodes: vec![1, 0, 1],
             numbers: vec![0, 1, 2, 1],
         };
-        let write = |output| {
+        let write = |version, output| {
             let rows = rows.clone();
-            answer(Request::WriteStored { output, rows }, b"1 2").line
+            let request = Request::WriteStored {
+                version,
+                output,
+                rows,
+            };
+            answer(request, b"1 2").line
         };
         let hex = "0100050100010002020004010000010300013103000132";
-        assert_eq!(write(23), format!("0 0 23 ; {hex} ; 0"));
-        assert_eq!(write(22), "23 0 0 ;  ; 0");
-        let bytes = b"\x01\0\x05\x01\0\x01\0\x02\x02\0\x04\x01\0\0\x01\x03\0\x011\x03\0\x012";
-        let read = |nodes, numbers, bytes: &[u8]| {
-            answer(Request::ReadStored { nodes, numbers }, bytes).line
+        assert_eq!(write(1, 23), format!("0 0 23 ; {hex} ; 0"));
+        assert_eq!(write(1, 22), "23 0 0 ;  ; 0");
+        let hex = "0100090200000001000000020200060100000000010300013103000132";
+        assert_eq!(write(2, 29), format!("0 0 29 ; {hex} ; 0"));
+        assert_eq!(write(2, 28), "23 0 0 ;  ; 0");
+    }
+
+    #[test]
+    fn stored_forms_read() {
+        let one = b"\x01\0\x05\x01\0\x01\0\x02\x02\0\x04\x01\0\0\x01\x03\0\x011\x03\0\x012";
+        let two = b"\x01\0\x09\x02\0\0\0\x01\0\0\0\x02\
+                    \x02\0\x06\x01\0\0\0\0\x01\x03\0\x011\x03\0\x012";
+        let read = |version, nodes, numbers, bytes: &[u8]| {
+            let request = Request::ReadStored {
+                version,
+                nodes,
+                numbers,
+            };
+            answer(request, bytes).line
         };
-        assert_eq!(read(5, 4, bytes), "0 0 1 2 ; 1 0 1 ; 18 1 22 1 ; 0");
-        assert_eq!(read(2, 4, bytes), "3 8 0 0 ;  ;  ; 0");
-        assert_eq!(read(3, 3, bytes), "4 19 0 0 ;  ;  ; 0");
-        assert_eq!(read(0, 0, &bytes[..22]), "25 19 0 0 ;  ;  ; 0");
+        assert_eq!(read(1, 5, 4, one), "0 0 1 2 ; 1 0 1 ; 18 1 22 1 ; 0");
+        assert_eq!(read(1, 2, 4, one), "3 8 0 0 ;  ;  ; 0");
+        assert_eq!(read(1, 3, 3, one), "4 19 0 0 ;  ;  ; 0");
+        assert_eq!(read(1, 0, 0, &one[..22]), "25 19 0 0 ;  ;  ; 0");
+        assert_eq!(read(2, 5, 4, one), "26 3 0 0 ;  ;  ; 0");
+        assert_eq!(read(2, 5, 4, two), "0 0 1 2 ; 1 0 1 ; 24 1 28 1 ; 0");
+        assert_eq!(read(2, 2, 4, two), "3 12 0 0 ;  ;  ; 0");
+        assert_eq!(read(2, 3, 3, two), "4 25 0 0 ;  ;  ; 0");
+        assert_eq!(read(1, 5, 4, two), "26 3 0 0 ;  ;  ; 0");
+    }
+
+    #[test]
+    fn the_longest_text() {
+        let read = |text: &[u8]| {
+            let request = Request::Read {
+                nodes: 3,
+                numbers: 4,
+            };
+            answer(request, text).line
+        };
+        let mut text = vec![b' '; 4_194_304];
+        text[..11].copy_from_slice(b"POINT(1 2) ");
+        assert_eq!(read(&text), "0 0 1 2 ; 1 0 1 ; 6 1 8 1 ; 0");
+        assert_eq!(answer(Request::Infer, &text).line, "0 0 1 0");
+        text[4_194_303] = 0xff;
+        assert_eq!(read(&text), "2 4194303 0 0 ;  ;  ; 0");
+        assert_eq!(answer(Request::Infer, &text).line, "2 4194303 0 0");
+        text.push(b' ');
+        assert_eq!(read(&text), "1 4194304 0 0 ;  ;  ; 0");
+        assert_eq!(answer(Request::Infer, &text).line, "1 4194304 0 0");
     }
 
     #[test]

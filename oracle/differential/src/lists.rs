@@ -12,11 +12,11 @@ use crate::expected::expected;
 use crate::random::Random;
 use crate::range_lists;
 use crate::store_lists;
-use crate::stored::{self, Room};
+use crate::stored::{self, Room, Version};
 use crate::stores;
 use crate::texts::Texts;
 use driver::answer::{self, BAD_RECORD, NOT_COMPARABLE, NOT_UTF8, STACK_BYTES};
-use driver::record::{Request, Rows};
+use driver::record::{Request, Rows, MAX_TEXT};
 use driver::tokens;
 use std::collections::BTreeMap;
 use std::path::Path;
@@ -126,8 +126,9 @@ const TIGHT_ROOMS: [(u32, u32, &str); 14] = [
 pub const COLLECTION: &str = "GEOMETRYCOLLECTION(";
 pub const MOST_OPEN: usize = 32;
 
-/// The longest text that is read.
-const LONGEST_READ: usize = 65_535;
+/// Lengths around the largest number of two bytes, and up to the longest text of a record:
+/// no record holds so long a text that it isn't read for its length.
+pub const LONG: [usize; 5] = [65_535, 65_536, 65_537, 100_000, MAX_TEXT];
 
 /// More edges of document 01 for infer_type.
 const INFERRED: &[&str] = &[
@@ -292,8 +293,8 @@ fn has_answer(case: &Case) -> bool {
     line != NOT_UTF8 && line != NOT_COMPARABLE
 }
 
-/// The edges as readings: with room for all, in tight rooms, at the limits of depth
-/// and length.
+/// The edges as readings: with room for all, in tight rooms, at the limit of depth, and in
+/// long texts.
 fn edges_read() -> Vec<Case> {
     let roomy = [""].iter().chain(EDGES).map(|text| {
         let places = 6 * text.len() as u32;
@@ -308,8 +309,7 @@ fn edges_read() -> Vec<Case> {
     });
     // 5 before 3 at one `(`.
     let deep_and_full = read_case(3 * 32, 0, COLLECTION.repeat(MOST_OPEN + 1));
-    let long =
-        [LONGEST_READ, LONGEST_READ + 1].map(|length| read_case(3, 4, point_and_blanks(length)));
+    let long = LONG.map(|length| read_case(3, 4, point_and_blanks(length)));
     let cases = roomy.chain(tight).chain(nested);
     cases.chain([deep_and_full]).chain(long).collect()
 }
@@ -323,7 +323,7 @@ fn read_case(nodes: u32, numbers: u32, text: String) -> Case {
 
 fn edges_inferred() -> Vec<Case> {
     let short = EDGES.iter().chain(INFERRED).map(|text| text.to_string());
-    let texts = short.chain([point_and_blanks(LONGEST_READ + 1)]);
+    let texts = short.chain([LONG[1], MAX_TEXT].map(point_and_blanks));
     let cases = texts.map(|text| Case {
         request: Request::Infer,
         text: text.into_bytes(),
@@ -336,11 +336,11 @@ pub fn point_and_blanks(length: usize) -> String {
     POINT.to_string() + &" ".repeat(length - POINT.len())
 }
 
-/// A refusal's number with, of 22, the clause that is broken, of 25, what is wrong with which
-/// field, of 30 and 31, what is wrong with X or with Y and, of a bad number, whether it stands at
-/// the root; or 0 with the kind that was read or written, of boxes with the dimension too, or, of
-/// the strict check, a rule's letter.
-type Class = (u32, u32);
+/// The version of a stored form, else 0; a refusal's number with, of 22, the clause that is
+/// broken, of 25, what is wrong with which field, of 30 and 31, what is wrong with X or with Y and,
+/// of a bad number, whether it stands at the root; or 0 with the kind that was read or written,
+/// of boxes with the dimension too, or, of the strict check, a rule's letter.
+type Class = (u8, u32, u32);
 
 /// Generated texts under one letter, spread evenly over the classes of answers and, in
 /// each class, over the texts that were drawn.
@@ -380,6 +380,16 @@ fn is_small(case: &Case) -> bool {
 }
 
 fn class(case: &Case) -> Class {
+    let version = match &case.request {
+        Request::WriteStored { version, .. } | Request::ReadStored { version, .. } => *version,
+        _ => 0,
+    };
+    let (number, sort) = outcome(case);
+    (version, number, sort)
+}
+
+/// The number of a class, and what it is told apart by.
+fn outcome(case: &Case) -> (u32, u32) {
     let line = expected(case).line;
     let numbers: Vec<u32> = line
         .split_whitespace()
@@ -401,10 +411,7 @@ fn class(case: &Case) -> Class {
             | Request::Check { rows }
             | Request::WriteStored { rows, .. },
         ) => (22, clause(&case.text, rows)),
-        (refusal, Request::ReadStored { nodes, numbers }) => {
-            let read = stored::read(&case.text, Room::of(*nodes, *numbers));
-            (refusal, read.expect_err("it is refused").sort())
-        }
+        (refusal, Request::ReadStored { .. }) => (refusal, stored_sort(case)),
         (refusal, Request::Boxes { table, rows }) => {
             let table = boxes::table(&case.text, rows, *table as usize);
             (refusal, table.expect_err("it is refused").sort())
@@ -414,6 +421,21 @@ fn class(case: &Case) -> Class {
         }
         (refusal, _) => (refusal, 0),
     }
+}
+
+/// What a refused stored reading is told apart by.
+fn stored_sort(case: &Case) -> u32 {
+    let Request::ReadStored {
+        version,
+        nodes,
+        numbers,
+    } = case.request
+    else {
+        unreachable!("a stored reading")
+    };
+    let room = Room::of(nodes, numbers);
+    let read = stored::read(&case.text, Version::of(version), room);
+    read.expect_err("it is refused").sort()
 }
 
 fn begins_with_number(text: &[u8]) -> bool {

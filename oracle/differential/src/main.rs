@@ -3,7 +3,8 @@
 //! records and stops at the first difference, made as small as it gets. With `--list` it
 //! writes a fixed list of records and their answers instead, with `--stored-list` that of
 //! the program `replay_stored`, with `--box-list` that of the program `replay_store`, and
-//! with `--tokens` that of the program `tokens`. With `--envelopes` it holds boxes beside the
+//! with `--tokens` that of the program `tokens`. With `--long` it holds a native program beside
+//! them, on records that are too large for the others, and with `--envelopes` boxes beside the
 //! envelopes of GEOS.
 
 mod any_bytes;
@@ -21,6 +22,11 @@ mod exact;
 mod expected;
 mod grammar;
 mod lists;
+mod long;
+mod long_cases;
+mod long_edges;
+mod long_stored;
+mod long_texts;
 mod model;
 mod numbers;
 mod random;
@@ -52,6 +58,7 @@ const TEXTS_PER_RUN: usize = 20_000;
 
 const USAGE: &str = "usage: differential [--letters LETTERS] --run PROGRAM SEED COUNT
        differential [--letters LETTERS] --replay PROGRAM SEED COUNT
+       differential --long [--letters LETTERS] --replay PROGRAM SEED COUNT
        differential --list SEED COUNT DIRECTORY
        differential --stored-list SEED COUNT DIRECTORY
        differential --box-list SEED COUNT DIRECTORY
@@ -62,6 +69,7 @@ const USAGE: &str = "usage: differential [--letters LETTERS] --run PROGRAM SEED 
 #[derive(Clone, Copy, PartialEq, Eq)]
 enum Mode {
     Compare,
+    Long,
     List,
     StoredList,
     BoxList,
@@ -95,6 +103,7 @@ fn options(mut arguments: impl Iterator<Item = String>) -> Option<Options> {
             "--letters" => options.letters = Some(arguments.next()?),
             "--run" => options.run = Some(PathBuf::from(arguments.next()?)),
             "--replay" => options.replay = Some(PathBuf::from(arguments.next()?)),
+            "--long" => options.mode = Mode::Long,
             "--list" => options.mode = Mode::List,
             "--stored-list" => options.mode = Mode::StoredList,
             "--box-list" => options.mode = Mode::BoxList,
@@ -117,16 +126,9 @@ struct Asked {
 
 /// The programs to compare with; `None` for letters that nobody knows.
 fn asked(options: &Options) -> Option<Vec<Asked>> {
-    if let Some(program) = &options.replay {
+    if options.replay.is_some() {
         let (_, known) = PROGRAMS[0];
-        let letters = options.letters.as_deref().unwrap_or(known);
-        return Some(vec![Asked {
-            replay: Replay::new(program, &[]),
-            letters: letters
-                .chars()
-                .map(Letter::from_char)
-                .collect::<Option<_>>()?,
-        }]);
+        return Some(vec![asked_alone(options, known)?]);
     }
     let run = options.run.as_ref()?;
     let all = PROGRAMS.map(|(_, known)| known).concat();
@@ -143,6 +145,17 @@ fn asked(options: &Options) -> Option<Vec<Asked>> {
             .collect(),
     });
     Some(programs.filter(|asked| !asked.letters.is_empty()).collect())
+}
+
+/// One program for the letters that are asked for, or else for these.
+fn asked_alone(options: &Options, known: &str) -> Option<Asked> {
+    let program = options.replay.as_ref()?;
+    let letters = options.letters.as_deref().unwrap_or(known);
+    let letters = letters.chars().map(Letter::from_char);
+    Some(Asked {
+        replay: Replay::new(program, &[]),
+        letters: letters.collect::<Option<_>>()?,
+    })
 }
 
 /// Boxes of the model and, if there is one, of a program beside GEOS; `None` without files.
@@ -197,6 +210,10 @@ fn run(options: Options) -> Option<io::Result<bool>> {
             Some(box_lists::write(seed, count, directory).map(|()| true))
         }
         (Mode::Compare, None, None) => Some(compare(&asked(&options)?, seed, count)),
+        (Mode::Long, None, None) => {
+            let Asked { replay, letters } = asked_alone(&options, long::LETTERS)?;
+            Some(long::compare(&replay, &letters, seed, count))
+        }
         _ => None,
     }
 }
@@ -212,7 +229,8 @@ fn compare(programs: &[Asked], seed: u64, count: usize) -> io::Result<bool> {
             return Ok(false);
         }
     }
-    report::print_tally(seed, count, &tally);
+    println!("seed {seed}, {count} texts, no difference");
+    report::print_tally(&tally);
     Ok(true)
 }
 

@@ -12,7 +12,7 @@ use driver::reader::{
     NodeRow, GEOMETRY_COLLECTION, LINE_STRING, MULTI_LINE_STRING, MULTI_POINT, MULTI_POLYGON,
     POINT, POLYGON,
 };
-use driver::tokens::{self, Demand, Placed, Seen, Span};
+use driver::tokens::{self, Placed, Seen, Span};
 
 pub const NO_NODE_ROW: u32 = 3;
 pub const NO_NUMBER_ROW: u32 = 4;
@@ -99,7 +99,24 @@ fn stopped<T>(number: u32, place: usize) -> Step<T> {
 }
 
 pub fn read(text: &str, limits: Limits) -> Result<Store, Refusal> {
-    let mut reader = Reader::new(text, limits);
+    read_tokens(text, &tokens_of(text), limits)
+}
+
+/// All tokens, up to the "no token" of the true end, which comes again and again.
+pub fn tokens_of(text: &str) -> Vec<Placed> {
+    tokens::take_all(text, 0).expect("0 is a character's place")
+}
+
+/// Reads a text whose tokens these are.
+pub fn read_tokens(text: &str, tokens: &[Placed], limits: Limits) -> Result<Store, Refusal> {
+    let mut reader = Reader {
+        text,
+        tokens,
+        taken: 0,
+        limits,
+        open: 0,
+        store: Store::default(),
+    };
     match reader.root() {
         Ok(()) => Ok(reader.store),
         Err(Failure::Refused(refusal) | Failure::Stopped(refusal)) => Err(refusal),
@@ -108,8 +125,7 @@ pub fn read(text: &str, limits: Limits) -> Result<Store, Refusal> {
 
 struct Reader<'text> {
     text: &'text str,
-    /// All tokens, up to the "no token" of the true end, which comes again and again.
-    tokens: Vec<Placed>,
+    tokens: &'text [Placed],
     taken: usize,
     limits: Limits,
     open: usize,
@@ -117,19 +133,6 @@ struct Reader<'text> {
 }
 
 impl<'text> Reader<'text> {
-    fn new(text: &'text str, limits: Limits) -> Self {
-        // Each token takes a byte at least.
-        let count = text.len() + 1;
-        Reader {
-            text,
-            tokens: tokens::take(text, 0, count, Demand::Take).expect("0 is a character's place"),
-            taken: 0,
-            limits,
-            open: 0,
-            store: Store::default(),
-        }
-    }
-
     fn look(&self) -> Placed {
         self.tokens[self.taken.min(self.tokens.len() - 1)]
     }

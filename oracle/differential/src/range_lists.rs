@@ -1,11 +1,11 @@
 //! Fixed records over whole ranges: every byte as a token's first, middle and last one and
 //! in front of a name, the rows of the table of UTF-8 by their ends, each refusal of the
-//! reader at each step and sort of token, characters of four bytes, and texts over the
-//! limit that aren't UTF-8 either.
+//! reader at each step and sort of token, characters of four bytes, and long texts that are
+//! refused for their last byte.
 
 use crate::cases::Case;
-use crate::lists::{COLLECTION, MOST_OPEN};
-use driver::record::Request;
+use crate::lists::{point_and_blanks, COLLECTION, LONG, MOST_OPEN};
+use driver::record::{Request, MAX_TEXT};
 
 /// Node rows, number rows, text: each refusal at each step that gives it, with each sort
 /// of token (`grammar/specs/Refused` proves the same rows).
@@ -125,8 +125,6 @@ const TAIL: u8 = 0x80;
 /// U+1F30D, a character of four bytes.
 const EARTH: &str = "🌍";
 
-/// One byte more than is read, two, and many.
-const TOO_LONG: [usize; 3] = [65_536, 65_537, 100_000];
 const NOT_UTF8: u8 = 0xFF;
 
 pub fn cases() -> Vec<Case> {
@@ -136,7 +134,7 @@ pub fn cases() -> Vec<Case> {
     cases.extend(refused());
     cases.extend(depths());
     cases.extend(wide());
-    cases.extend(too_long());
+    cases.extend(long());
     cases
 }
 
@@ -248,24 +246,28 @@ fn wide() -> Vec<Case> {
     cases
 }
 
-/// 1 before 2, whatever the length.
-fn too_long() -> Vec<Case> {
-    let texts = TOO_LONG.map(|length| vec![NOT_UTF8; length]);
-    texts
-        .into_iter()
-        .flat_map(|text| {
-            [
-                case(Request::Infer, text.clone()),
-                case(
-                    Request::Read {
-                        nodes: 3,
-                        numbers: 4,
-                    },
-                    text,
-                ),
-            ]
-        })
-        .collect()
+/// Refused for the last byte of a long text, which is looked at whatever the length: 2 there
+/// or, where a body isn't closed, 13 behind it.
+fn long() -> Vec<Case> {
+    let not_utf8 = |length: usize| {
+        let mut text = point_and_blanks(length).into_bytes();
+        text[length - 1] = NOT_UTF8;
+        text
+    };
+    let not_closed = |length: usize| point_and_blanks(length).replace(')', " ").into_bytes();
+    let read = Request::Read {
+        nodes: 3,
+        numbers: 4,
+    };
+    let mut cases = Vec::new();
+    for length in [LONG[1], MAX_TEXT] {
+        cases.push(case(read.clone(), not_utf8(length)));
+        cases.push(case(read.clone(), not_closed(length)));
+    }
+    for length in [LONG[0], LONG[2]] {
+        cases.push(case(Request::Infer, not_utf8(length)));
+    }
+    cases
 }
 
 fn read(nodes: u32, numbers: u32, text: &str) -> Case {

@@ -8,13 +8,15 @@ use driver::answer::STACK_BYTES;
 use driver::record::{Request, Rows};
 use std::{io, thread};
 
-/// A longer text is printed up to here.
+/// Of a longer text the first half of so many bytes is printed, and the last.
 const PRINTED_BYTES: usize = 2_000;
+/// Of a longer line what stands around the first difference.
+const PRINTED_LINE: usize = 1_000;
 /// And so is a longer slice.
 const PRINTED_PLACES: usize = 300;
 
-pub fn print_tally(seed: u64, texts: usize, tally: &Tally) {
-    println!("seed {seed}, {texts} texts, no difference");
+/// How many records of each letter agreed, and how they were answered.
+pub fn print_tally(tally: &Tally) {
     for (letter, count) in tally {
         let letter = char::from(*letter);
         println!("{letter}: {} records agreed", count.agreed());
@@ -41,15 +43,46 @@ pub fn print_difference(replay: &Replay, case: &Case) -> io::Result<()> {
         Some(line) => String::from_utf8_lossy(line).into_owned(),
         None => format!("nothing; it ended with {}", replies.status),
     };
-    let printed = &case.text[..case.text.len().min(PRINTED_BYTES)];
-    let hex: Vec<String> = printed.iter().map(|byte| format!("{byte:02x}")).collect();
+    let expected = expected_line(case)?;
     println!("difference at {}", described(&case.request));
     println!("text     {} bytes", case.text.len());
-    println!("         \"{}\"", printed.escape_ascii());
-    println!("hex      {}", hex.join(" "));
-    println!("expected {}", expected_line(case)?);
-    println!("replay   {answered}");
+    print_bytes(&case.text);
+    let (ours, theirs) = (expected.bytes(), answered.bytes());
+    let same = ours.zip(theirs).take_while(|(our, their)| our == their);
+    let first = same.count();
+    println!("expected {}", around(&expected, first));
+    println!("replay   {}", around(&answered, first));
     Ok(())
+}
+
+/// The first and the last of many bytes.
+fn print_bytes(bytes: &[u8]) {
+    let half = PRINTED_BYTES / 2;
+    if bytes.len() > PRINTED_BYTES {
+        print_part("from 0 on: ", &bytes[..half]);
+        let start = bytes.len() - half;
+        print_part(&format!("from {start} on: "), &bytes[start..]);
+        return;
+    }
+    print_part("", bytes);
+}
+
+fn print_part(place: &str, bytes: &[u8]) {
+    let hex: Vec<String> = bytes.iter().map(|byte| format!("{byte:02x}")).collect();
+    println!("         {place}\"{}\"", bytes.escape_ascii());
+    println!("hex      {}", hex.join(" "));
+}
+
+/// A line or, where it is long, what of it stands around a place.
+fn around(line: &str, place: usize) -> String {
+    if line.len() <= PRINTED_LINE {
+        return line.to_string();
+    }
+    let half = PRINTED_LINE / 2;
+    let start = place.saturating_sub(half);
+    let bytes = line.bytes().skip(start).take(PRINTED_LINE);
+    let part = String::from_utf8_lossy(&bytes.collect::<Vec<u8>>()).into_owned();
+    format!("{} bytes, from {start} on: {part}", line.len())
 }
 
 fn described(request: &Request) -> String {
@@ -58,11 +91,24 @@ fn described(request: &Request) -> String {
         Request::Take { place, count } | Request::LookAndTake { place, count } => {
             format!("{letter}, place {place}, count {count}")
         }
-        Request::Read { nodes, numbers } | Request::ReadStored { nodes, numbers } => {
+        Request::Read { nodes, numbers } => {
             format!("{letter}, node slice {nodes}, number slice {numbers}")
         }
-        Request::Write { output, rows } | Request::WriteStored { output, rows } => {
+        Request::ReadStored {
+            version,
+            nodes,
+            numbers,
+        } => format!("{letter}, version {version}, node slice {nodes}, number slice {numbers}"),
+        Request::Write { output, rows } => {
             format!("{letter}, output {output}, {}", described_rows(rows))
+        }
+        Request::WriteStored {
+            version,
+            output,
+            rows,
+        } => {
+            let rows = described_rows(rows);
+            format!("{letter}, version {version}, output {output}, {rows}")
         }
         Request::Check { rows } => format!("{letter}, {}", described_rows(rows)),
         Request::Boxes { table, rows } => {

@@ -1,16 +1,17 @@
 //! From a batch with a fault to the smallest case that still has one.
 
-use crate::cases::Case;
+use crate::cases::{places, Case};
 use crate::check::{check, Fault, Tally};
 use crate::replay::Replay;
 use crate::smaller_stores::{much_smaller, smaller};
+use crate::stored::Version;
 use crate::stored_cases;
 use driver::record::{Request, Rows};
 use std::io;
 
 /// Candidates are tried together in one run of the replay program, up to so many
-/// bytes; a text or a store that needs more is left as it is.
-const MAX_ROUND_BYTES: usize = 1 << 26;
+/// bytes of records and lines; a text or a store that needs more is left as it is.
+const MAX_ROUND_BYTES: usize = 1 << 27;
 
 /// So many much smaller stores are tried in one run.
 const MUCH_SMALLER_TRIED: usize = 64;
@@ -61,18 +62,7 @@ pub fn smallest(replay: &Replay, case: Case) -> io::Result<Case> {
 
 fn round_bytes(case: &Case, step: usize) -> usize {
     let parts = case.text.len().div_ceil(step);
-    parts * (case.text.len() + 4 * places(&case.request))
-}
-
-/// How many places the rows of a request have.
-fn places(request: &Request) -> usize {
-    match request {
-        Request::Write { rows, .. }
-        | Request::Check { rows }
-        | Request::WriteStored { rows, .. }
-        | Request::Boxes { rows, .. } => rows.nodes.len() + rows.numbers.len(),
-        _ => 0,
-    }
+    parts * case.size()
 }
 
 /// About how many bytes all smaller stores of a case have.
@@ -81,7 +71,7 @@ fn store_bytes(case: &Case) -> usize {
         // A field has three bytes at least; there are two ways to make it smaller, and
         // four pairs of slices.
         Request::ReadStored { .. } => 8 * case.text.len() / 3 * case.text.len(),
-        request => places(request) * (case.text.len() + 4 * places(request)),
+        request => places(request) * case.size(),
     }
 }
 
@@ -124,22 +114,11 @@ fn moved_back(request: &Request, start: usize, end: usize) -> Request {
             place: moved(*place),
             count: *count,
         },
-        Request::Write { output, rows } => Request::Write {
-            output: *output,
-            rows: moved_rows(rows),
+        Request::Boxes { rows, .. } => request.with_rows(shortened_rows(rows, start, end)),
+        other => match other.rows() {
+            Some(rows) => other.with_rows(moved_rows(rows)),
+            None => other.clone(),
         },
-        Request::Check { rows } => Request::Check {
-            rows: moved_rows(rows),
-        },
-        Request::WriteStored { output, rows } => Request::WriteStored {
-            output: *output,
-            rows: moved_rows(rows),
-        },
-        Request::Boxes { table, rows } => Request::Boxes {
-            table: *table,
-            rows: shortened_rows(rows, start, end),
-        },
-        other => other.clone(),
     }
 }
 
@@ -171,22 +150,23 @@ fn with_simpler_fields(case: &Case) -> Vec<Case> {
         Request::LookAndTake { place, count } => simpler_demands(*place, *count)
             .map(|(place, count)| Request::LookAndTake { place, count })
             .collect(),
-        Request::Write { output, rows } => simpler_writings(&case.text, *output, rows)
-            .map(|(output, rows)| Request::Write { output, rows })
-            .collect(),
-        Request::WriteStored { output, rows } => simpler_writings(&case.text, *output, rows)
-            .map(|(output, rows)| Request::WriteStored { output, rows })
+        Request::Write { output, rows }
+        | Request::WriteStored { output, rows, .. }
+        | Request::Boxes {
+            table: output,
+            rows,
+        } => simpler_writings(&case.text, *output, rows)
+            .map(|(output, rows)| with_output(&case.request, output).with_rows(rows))
             .collect(),
         Request::Check { rows } => {
             let stores = smaller(&case.text, rows).into_iter();
             stores.map(|rows| Request::Check { rows }).collect()
         }
-        Request::Boxes { table, rows } => simpler_writings(&case.text, *table, rows)
-            .map(|(table, rows)| Request::Boxes { table, rows })
-            .collect(),
-        Request::ReadStored { nodes, numbers } => {
-            return simpler_stored_readings(&case.text, *nodes, *numbers)
-        }
+        Request::ReadStored {
+            version,
+            nodes,
+            numbers,
+        } => return simpler_stored_readings(&case.text, *version, *nodes, *numbers),
         Request::Read { .. } | Request::Infer => Vec::new(),
     };
     let with_text = requests.into_iter().map(|request| Case {
@@ -194,6 +174,18 @@ fn with_simpler_fields(case: &Case) -> Vec<Case> {
         text: case.text.clone(),
     });
     with_text.collect()
+}
+
+/// The request with an output or a table of another length.
+fn with_output(request: &Request, length: u32) -> Request {
+    let mut request = request.clone();
+    match &mut request {
+        Request::Write { output, .. }
+        | Request::WriteStored { output, .. }
+        | Request::Boxes { table: output, .. } => *output = length,
+        _ => {}
+    }
+    request
 }
 
 /// Boxes of a large store are tried on much smaller ones first: they print a row for every
@@ -238,7 +230,7 @@ fn simpler_writings(text: &[u8], output: u32, rows: &Rows) -> impl Iterator<Item
 }
 
 /// Smaller stored bytes, in the same slices and in slices with a row less.
-fn simpler_stored_readings(bytes: &[u8], nodes: u32, numbers: u32) -> Vec<Case> {
+fn simpler_stored_readings(bytes: &[u8], version: u8, nodes: u32, numbers: u32) -> Vec<Case> {
     let (fewer_nodes, fewer_numbers) = (nodes.saturating_sub(3), numbers.saturating_sub(2));
     let slices = [
         (nodes, numbers),
@@ -246,10 +238,14 @@ fn simpler_stored_readings(bytes: &[u8], nodes: u32, numbers: u32) -> Vec<Case> 
         (nodes, fewer_numbers),
         (fewer_nodes, fewer_numbers),
     ];
-    let smaller = stored_cases::smaller(bytes).into_iter();
+    let smaller = stored_cases::smaller(bytes, Version::of(version)).into_iter();
     let cases = smaller.flat_map(|bytes| {
         slices.map(|(nodes, numbers)| Case {
-            request: Request::ReadStored { nodes, numbers },
+            request: Request::ReadStored {
+                version,
+                nodes,
+                numbers,
+            },
             text: bytes.clone(),
         })
     });

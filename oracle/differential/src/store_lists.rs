@@ -15,8 +15,8 @@ use driver::record::{Request, Rows, MAX_OUTPUT, MAX_SLICE, MAX_TEXT};
 const ROOMY: u32 = 160;
 /// Some rooms are larger than the text by so much.
 const MUCH: u32 = 70;
-/// The longest text that is read; writer and strict check take longer ones.
-const LONGEST_READ: usize = 65_535;
+/// The first place that has no number of two bytes.
+const BEHIND_TWO_BYTES: usize = 65_536;
 
 const MAX: u32 = u32::MAX;
 const HALF: u32 = 1 << 31;
@@ -57,7 +57,7 @@ impl Lent {
         self.with(|rows| rows.nodes[place] = value)
     }
 
-    fn write(&self, output: u32) -> Case {
+    pub fn write(&self, output: u32) -> Case {
         let rows = self.rows.clone();
         Case {
             request: Request::Write { output, rows },
@@ -65,7 +65,7 @@ impl Lent {
         }
     }
 
-    fn check(&self) -> Case {
+    pub fn check(&self) -> Case {
         let rows = self.rows.clone();
         Case {
             request: Request::Check { rows },
@@ -74,7 +74,7 @@ impl Lent {
     }
 
     /// The length of the canonical text, of a well-formed store.
-    fn length(&self) -> u32 {
+    pub fn length(&self) -> u32 {
         let root = stores::tree(&self.text, &self.rows).ok();
         stores::canonical(&root.expect("well formed")).len() as u32
     }
@@ -561,12 +561,12 @@ const STRICT: &[&str] = &[
     "GEOMETRYCOLLECTION(LINESTRING EMPTY,LINESTRING(1 2,3 4))",
 ];
 
-/// Writers and strict check test neither the length nor the UTF-8 of the lent text.
+/// Writers and strict check don't test the UTF-8 of the lent text; spans may lie far behind.
 pub fn any_text() -> [Lent; 2] {
     let point = [[1, 0, 1]];
-    let mut long = point_and_blanks(LONGEST_READ + 1).into_bytes();
+    let mut long = point_and_blanks(BEHIND_TWO_BYTES).into_bytes();
     long.extend(b"1 2");
-    let start = LONGEST_READ as u32 + 1;
+    let start = BEHIND_TWO_BYTES as u32;
     let spans = [[start, 1], [start + 2, 1]];
     let long = Lent::of(&long, &point, &spans);
     let no_utf8 = Lent::of(b"\xff1\xc0\x80-2\xe4\xba", &point, &[[1, 1], [4, 2]]);
@@ -605,8 +605,11 @@ pub fn bad_records() -> Vec<Vec<u8>> {
         bytes.extend(rest);
         bytes
     };
+    let too_long = point_and_blanks(MAX_TEXT + 1);
     vec![
         Vec::new(),
+        record(b'r', &[3, 4], too_long.as_bytes()),
+        record(b'i', &[], too_long.as_bytes()),
         record(b'x', &[0, 0, 0], b"POINT(1 2)"),
         record(b'w', &[], b""),
         record(b'w', &[0, 0], b""),

@@ -1,19 +1,19 @@
-//! The fixed list of the program `replay_stored`, for the letters `S` and `L`: each field
-//! of a stored form broken in each way, versions, each clause of "A store is well formed
-//! if .." broken by itself, rooms that are enough or not, every kind and dimension there
-//! and back, counts of more than a byte, and the limits of the form as far as a record can
-//! hold them. Then generated records. No record comes twice.
+//! The fixed list of the program `replay_stored`, for the letters `S` and `L`, all of it for
+//! each version: each field of a stored form broken in each way, versions, each clause of "A
+//! store is well formed if .." broken by itself, rooms that are enough or not, every kind and
+//! dimension there and back, counts of more than a byte, and the limits of the form as far as
+//! a record can hold them. Then generated records. No record comes twice.
 //!
 //! What no record can hold, as its text has at most 131,072 bytes and its slices at most
-//! 98,304 places (32,768 node rows, 49,152 number rows): stored bytes over 1,048,576, a
-//! count of more than 65,535 nodes or numbers in a well-formed store, and a whole of
-//! 1,048,576 bytes that is accepted (its output is too short: 23). The tests of `stored`
-//! have them for the model.
+//! 98,304 places (32,768 node rows, 49,152 number rows): more stored bytes than a version
+//! reads, a count of more than 65,535 nodes or numbers in a well-formed store, and a whole of
+//! as many bytes as a version may have that is accepted (its output is too short: 23). The tests
+//! of `stored` have them for the model, and `long_stored` for both sides.
 
 use crate::cases::{self, Case, Letter};
 use crate::lists;
 use crate::store_lists::{self, Lent};
-use crate::stored::{self, LONGEST};
+use crate::stored::{self, Version, VERSIONS};
 use crate::stored_cases::{self, bytes_of, Field};
 use crate::stores;
 use driver::record::{Request, Rows, MAX_OUTPUT, MAX_SLICE, MAX_TEXT};
@@ -39,60 +39,69 @@ const NUMBER_FIELDS: std::ops::Range<usize> = 4..8;
 /// Number and place of the refusal, and the bytes that have it in any room.
 type Refused = (u32, usize, Vec<u8>);
 
-/// Writes `stdin` and `stdout` into the directory, with about so many generated records.
+/// Writes `stdin` and `stdout` into the directory, with about so many generated records of
+/// each version.
 pub fn write(seed: u64, generated: usize, directory: &Path) -> io::Result<()> {
-    let mut cases = fixed();
-    let readings = generated / 2;
-    cases.extend(lists::spread(seed, Letter::ReadStored, readings));
-    cases.extend(lists::spread(
-        seed,
-        Letter::WriteStored,
-        generated - readings,
-    ));
+    let mut cases: Vec<Case> = VERSIONS.into_iter().flat_map(fixed).collect();
+    // Half of them of each letter, and half of these of each version.
+    cases.extend(lists::spread(seed, Letter::ReadStored, generated));
+    cases.extend(lists::spread(seed, Letter::WriteStored, generated));
     let mut seen = HashSet::new();
     cases.retain(|case| seen.insert(cases::encode(std::slice::from_ref(case))));
     lists::write_files(&cases, &bad_records(), b'L', directory)
 }
 
-/// All records that aren't drawn, in a fixed order.
-fn fixed() -> Vec<Case> {
-    let mut cases = broken_forms();
-    cases.extend(changed_points());
-    cases.extend(ill_formed());
-    cases.extend(rooms());
-    cases.extend(there_and_back());
-    cases.extend(number_texts());
-    cases.extend(high_bytes());
-    cases.extend(writings());
-    cases.extend(long_numbers());
-    cases.extend(wholes());
+/// All records of a version that aren't drawn, in a fixed order.
+fn fixed(version: Version) -> Vec<Case> {
+    let mut cases = broken_forms(version);
+    cases.extend(changed_points(version));
+    cases.extend(ill_formed(version));
+    cases.extend(rooms(version));
+    cases.extend(there_and_back(version));
+    cases.extend(number_texts(version));
+    cases.extend(high_bytes(version));
+    cases.extend(writings(version));
+    cases.extend(long_numbers(version));
+    cases.extend(wholes(version));
     cases
 }
 
 /// The stored reader, lent so many rows.
-fn read(bytes: Vec<u8>, node_rows: u32, number_rows: u32) -> Case {
-    read_places(bytes, 3 * node_rows, 2 * number_rows)
+fn read(version: Version, bytes: Vec<u8>, node_rows: u32, number_rows: u32) -> Case {
+    read_places(version, bytes, 3 * node_rows, 2 * number_rows)
 }
 
-fn read_places(bytes: Vec<u8>, nodes: u32, numbers: u32) -> Case {
+pub fn read_places(version: Version, bytes: Vec<u8>, nodes: u32, numbers: u32) -> Case {
     Case {
-        request: Request::ReadStored { nodes, numbers },
+        request: Request::ReadStored {
+            version: version.number,
+            nodes,
+            numbers,
+        },
         text: bytes,
     }
 }
 
-fn write_stored(lent: &Lent, output: u32) -> Case {
+pub fn write_stored(version: Version, lent: &Lent, output: u32) -> Case {
     let rows = lent.rows.clone();
     Case {
-        request: Request::WriteStored { output, rows },
+        request: Request::WriteStored {
+            version: version.number,
+            output,
+            rows,
+        },
         text: lent.text.clone(),
     }
 }
 
 /// The fields of a text that is read.
-fn fields_of(text: &str) -> Vec<Field> {
+fn fields_of(version: Version, text: &str) -> Vec<Field> {
     let lent = Lent::read(text);
-    stored_cases::fields(&lent.text, &lent.rows)
+    fields_of_store(version, &lent)
+}
+
+fn fields_of_store(version: Version, lent: &Lent) -> Vec<Field> {
+    stored_cases::fields(&lent.text, &lent.rows, version)
 }
 
 /// Where each field stands, and where the last one ends.
@@ -112,33 +121,33 @@ fn with_field(fields: &[Field], index: usize, field: Field) -> Vec<u8> {
 }
 
 /// Broken forms, with many rows and with none in turn: 25 and 26 come before 3 and 4.
-fn broken_forms() -> Vec<Case> {
-    let forms = broken().into_iter().enumerate();
+fn broken_forms(version: Version) -> Vec<Case> {
+    let forms = broken(version).into_iter().enumerate();
     let cases = forms.map(|(index, (_, _, bytes))| {
         let rows = if index % 2 == 0 { MANY } else { 0 };
-        read(bytes, rows, rows)
+        read(version, bytes, rows, rows)
     });
     cases.collect()
 }
 
-fn broken() -> Vec<Refused> {
-    let mut broken = cut();
-    broken.extend(missing());
-    broken.extend(doubled());
-    broken.extend(swapped());
-    broken.extend(extra());
-    broken.extend(wrong_tags());
-    broken.extend(wrong_lengths());
-    broken.extend(wrong_number_lengths());
-    broken.extend(wrong_counts());
-    broken.extend(several());
-    broken.extend(versions());
+fn broken(version: Version) -> Vec<Refused> {
+    let mut broken = cut(version);
+    broken.extend(missing(version));
+    broken.extend(doubled(version));
+    broken.extend(swapped(version));
+    broken.extend(extra(version));
+    broken.extend(wrong_tags(version));
+    broken.extend(wrong_lengths(version));
+    broken.extend(wrong_number_lengths(version));
+    broken.extend(wrong_counts(version));
+    broken.extend(several(version));
+    broken.extend(versions(version));
     broken
 }
 
 /// Everything from some byte on is missing: a tag, a part of a length, of a content.
-fn cut() -> Vec<Refused> {
-    let fields = fields_of(POINTS);
+fn cut(version: Version) -> Vec<Refused> {
+    let fields = fields_of(version, POINTS);
     let (bytes, starts) = (bytes_of(&fields), starts(&fields));
     let lengths = 0..bytes.len();
     let cut = lengths.map(|length| {
@@ -150,8 +159,8 @@ fn cut() -> Vec<Refused> {
 
 /// A field left out: the one after it stands in its place, or the next sort of field where
 /// the last one of its sort should be.
-fn missing() -> Vec<Refused> {
-    let fields = fields_of(POINTS);
+fn missing(version: Version) -> Vec<Refused> {
+    let fields = fields_of(version, POINTS);
     let starts = starts(&fields);
     let missing = (0..fields.len()).map(|index| {
         let mut fields = fields.clone();
@@ -167,8 +176,8 @@ fn missing() -> Vec<Refused> {
     missing.collect()
 }
 
-fn doubled() -> Vec<Refused> {
-    let fields = fields_of(POINTS);
+fn doubled(version: Version) -> Vec<Refused> {
+    let fields = fields_of(version, POINTS);
     let starts = starts(&fields);
     let doubled = (0..fields.len()).map(|index| {
         let mut fields = fields.clone();
@@ -186,8 +195,8 @@ fn doubled() -> Vec<Refused> {
 
 /// Two fields in each other's place, of another sort (25) or of the same (22: the nodes
 /// are another tree).
-fn swapped() -> Vec<Refused> {
-    let fields = fields_of(POINTS);
+fn swapped(version: Version) -> Vec<Refused> {
+    let fields = fields_of(version, POINTS);
     let starts = starts(&fields);
     let pairs = [
         (0, 1, 25, 0),
@@ -207,7 +216,7 @@ fn swapped() -> Vec<Refused> {
 }
 
 /// Nothing may follow, be it a field or not.
-fn extra() -> Vec<Refused> {
+fn extra(version: Version) -> Vec<Refused> {
     let mut extra = Vec::new();
     for text in [
         POINTS,
@@ -215,7 +224,9 @@ fn extra() -> Vec<Refused> {
         "POINT EMPTY",
         "GEOMETRYCOLLECTION EMPTY",
     ] {
-        let bytes = bytes_of(&fields_of(text));
+        let fields = fields_of(version, text);
+        let bytes = bytes_of(&fields);
+        let [header, node] = [0, 1].map(|index: usize| fields[index].bytes().len());
         for more in [
             &[0][..],
             &[1],
@@ -228,8 +239,8 @@ fn extra() -> Vec<Refused> {
             &[3, 0, 0],
             &[3, 0, 1],
             &[3, 0, 1, b'5'],
-            &[2, 0, 4, 1, 0, 0, 0],
-            &[1, 0, 5, 1, 0, 0, 0, 0],
+            &stored_cases::header(version, 0, 0).bytes(),
+            &bytes[header..header + node],
             &[4, 0, 0],
             &[0; 8],
             &bytes,
@@ -240,8 +251,8 @@ fn extra() -> Vec<Refused> {
     extra
 }
 
-fn wrong_tags() -> Vec<Refused> {
-    let fields = fields_of(POINTS);
+fn wrong_tags(version: Version) -> Vec<Refused> {
+    let fields = fields_of(version, POINTS);
     let starts = starts(&fields);
     let mut wrong = Vec::new();
     for (index, field) in fields.iter().enumerate() {
@@ -258,8 +269,8 @@ fn wrong_tags() -> Vec<Refused> {
 }
 
 /// A header and node fields that are said to be longer or shorter, and that are so.
-fn wrong_lengths() -> Vec<Refused> {
-    let fields = fields_of(POINTS);
+fn wrong_lengths(version: Version) -> Vec<Refused> {
+    let fields = fields_of(version, POINTS);
     let starts = starts(&fields);
     let mut wrong = Vec::new();
     for (index, field) in fields[..NODE_FIELDS.end].iter().enumerate() {
@@ -273,9 +284,10 @@ fn wrong_lengths() -> Vec<Refused> {
             let mut content = field.content.clone();
             content.resize(usize::from(length), 0);
             let bytes = with_field(&fields, index, Field::of(field.tag, &content));
-            // Where the header has no content, the next tag is taken for a version.
+            // Where the header has no content, the next tag is taken for a version: that of
+            // version 2, but of no other.
             let (number, place) = match (index, length) {
-                (0, 0) => (26, 3),
+                (0, 0) if version.number != stored::NODE => (26, 3),
                 _ => (25, starts[index]),
             };
             wrong.push((number, place, bytes));
@@ -293,8 +305,8 @@ fn wrong_lengths() -> Vec<Refused> {
 
 /// A number that is said to be longer takes from the next field or is cut; one that is said
 /// to be shorter leaves a byte in the place of a tag.
-fn wrong_number_lengths() -> Vec<Refused> {
-    let fields = fields_of(POINTS);
+fn wrong_number_lengths(version: Version) -> Vec<Refused> {
+    let fields = fields_of(version, POINTS);
     let starts = starts(&fields);
     let mut wrong = Vec::new();
     for index in NUMBER_FIELDS {
@@ -323,37 +335,47 @@ fn wrong_number_lengths() -> Vec<Refused> {
 }
 
 /// Counts that aren't those of the fields.
-fn wrong_counts() -> Vec<Refused> {
-    let fields = fields_of(POINTS);
+fn wrong_counts(version: Version) -> Vec<Refused> {
+    let fields = fields_of(version, POINTS);
     let starts = starts(&fields);
     let end = starts[fields.len()];
-    let counts: [(u16, u16, usize); 14] = [
+    let most = most(version);
+    let mut counts = vec![
         (2, 4, starts[3]),
         (4, 4, starts[4]),
         (0, 4, starts[1]),
         (0, 0, starts[1]),
-        (0x0300, 4, starts[4]),
-        (u16::MAX, 4, starts[4]),
+        (most, 4, starts[4]),
         (3, 3, starts[7]),
         (3, 5, end),
         (3, 0, starts[4]),
-        (3, 0x0400, end),
-        (3, u16::MAX, end),
+        (3, most, end),
         (2, 5, starts[3]),
         (4, 3, starts[4]),
-        (u16::MAX, u16::MAX, starts[4]),
+        (most, most, starts[4]),
     ];
-    let wrong = counts.map(|(nodes, numbers, place)| {
-        let counts = [nodes.to_be_bytes(), numbers.to_be_bytes()].concat();
-        let header = Field::of(stored::HEADER, &[&[stored::VERSION][..], &counts].concat());
+    // What is right in one byte, and what is right but for one.
+    for byte in 1..version.width {
+        counts.push((3 << (8 * byte), 4, starts[4]));
+        counts.push((3, 4 << (8 * byte), end));
+        counts.push((3 + (1 << (8 * byte)), 4, starts[4]));
+        counts.push((3, 4 + (1 << (8 * byte)), end));
+    }
+    let wrong = counts.into_iter().map(|(nodes, numbers, place)| {
+        let header = stored_cases::header(version, nodes, numbers);
         (25, place, with_field(&fields, 0, header))
     });
-    wrong.into_iter().collect()
+    wrong.collect()
+}
+
+/// The largest count that a version has bytes for.
+fn most(version: Version) -> u32 {
+    u32::MAX >> (32 - 8 * version.width)
 }
 
 /// The first broken field counts; a broken field comes before an ill-formed tree.
-fn several() -> Vec<Refused> {
-    let fields = fields_of(POINTS);
+fn several(version: Version) -> Vec<Refused> {
+    let fields = fields_of(version, POINTS);
     let starts = starts(&fields);
     let mut several = Vec::new();
     let with_tag = |fields: &mut [Field], index: usize| fields[index].tag = 9;
@@ -372,7 +394,7 @@ fn several() -> Vec<Refused> {
     let ill_formed: [fn(&mut [Field]); 4] = [
         |fields| fields[1].content[0] = 9,
         |fields| fields[2].content[1] = 1,
-        |fields| fields[1].content[3] = 3,
+        |fields| *fields[1].content.last_mut().expect("it has parts") = 3,
         |fields| fields[5].content[0] = b'x',
     ];
     for change in ill_formed {
@@ -387,94 +409,120 @@ fn several() -> Vec<Refused> {
     several
 }
 
-/// 26 looks at the first byte and at byte 3 alone.
-fn versions() -> Vec<Refused> {
-    let fields = fields_of(POINTS);
-    let bytes = bytes_of(&fields);
+/// 26 looks at the first byte and at byte 3 alone, which has to be the reader's own version:
+/// the other one is unknown to it too.
+fn versions(version: Version) -> Vec<Refused> {
+    let bytes = bytes_of(&fields_of(version, POINTS));
+    let other = stored_cases::other(version);
+    let length = version.header_length() as u8;
     let mut versions = Vec::new();
-    for version in [0, 2, 3, 4, 5, 16, b'1', 127, 128, 129, 254, 255] {
-        let mut other = bytes.clone();
-        other[3] = version;
-        versions.push((26, 3, other));
-        for front in [[1, 0, 5], [1, 255, 255], [1, 0, 0]] {
-            versions.push((26, 3, [&front[..], &[version]].concat()));
+    for byte in [0, other.number, 3, 4, 5, 16, b'1', 127, 128, 129, 254, 255] {
+        let mut changed = bytes.clone();
+        changed[3] = byte;
+        versions.push((26, 3, changed));
+        for front in [[1, 0, length], [1, 255, 255], [1, 0, 0]] {
+            versions.push((26, 3, [&front[..], &[byte]].concat()));
         }
     }
-    let mut other = bytes.clone();
-    other[3] = 2;
-    for length in 4..=8 {
-        versions.push((26, 3, other[..length].to_vec()));
+    // Whole forms of the other version.
+    for text in [POINTS, "POINT EMPTY", "POINT(1 2)"] {
+        versions.push((26, 3, bytes_of(&fields_of(other, text))));
     }
-    for (high, low) in [(0, 0), (0, 4), (0, 6), (5, 0), (255, 255)] {
-        let with_length = [&[1, high, low][..], &other[3..]].concat();
-        versions.push((26, 3, with_length));
-        versions.push((25, 0, [1, high, low, 1].to_vec()));
-        versions.push((25, 0, [1, high, low].to_vec()));
-    }
-    other[8] = 9;
-    versions.push((26, 3, other.clone()));
-    for first in [0, 2, 3, 255] {
-        other[0] = first;
-        versions.push((25, 0, other.clone()));
-        versions.push((25, 0, [first, 0, 5, 2].to_vec()));
-        versions.push((25, 0, [first].to_vec()));
-    }
-    versions.push((25, 0, [1, 0, 5, 1].to_vec()));
+    versions.extend(fronts(version));
     versions
 }
 
+/// A header of the other version that is cut, or of any length; other first bytes.
+fn fronts(version: Version) -> Vec<Refused> {
+    let mut changed = bytes_of(&fields_of(version, POINTS));
+    let other = stored_cases::other(version);
+    let length = version.header_length() as u8;
+    changed[3] = other.number;
+    let cut = 4..=3 + version.header_length();
+    let mut fronts: Vec<Refused> = cut.map(|end| (26, 3, changed[..end].to_vec())).collect();
+    for (high, low) in [
+        (0, 0),
+        (0, length - 1),
+        (0, length + 1),
+        (length, 0),
+        (255, 255),
+    ] {
+        let with_length = [&[1, high, low][..], &changed[3..]].concat();
+        fronts.push((26, 3, with_length));
+        fronts.push((25, 0, [1, high, low, version.number].to_vec()));
+        fronts.push((25, 0, [1, high, low].to_vec()));
+    }
+    changed[3 + version.header_length()] = 9;
+    fronts.push((26, 3, changed.clone()));
+    for first in [0, 2, 3, 255] {
+        changed[0] = first;
+        fronts.push((25, 0, changed.clone()));
+        fronts.push((25, 0, [first, 0, length, other.number].to_vec()));
+        fronts.push((25, 0, [first].to_vec()));
+    }
+    fronts.push((25, 0, [1, 0, length, version.number].to_vec()));
+    fronts
+}
+
 /// Each bit of a point's stored form turned, each of its bytes left out and doubled.
-fn changed_points() -> Vec<Case> {
-    let point = bytes_of(&fields_of("POINT(1 2)"));
-    let mut cases = vec![read(point.clone(), 1, 2)];
+fn changed_points(version: Version) -> Vec<Case> {
+    let point = bytes_of(&fields_of(version, "POINT(1 2)"));
+    let mut cases = vec![read(version, point.clone(), 1, 2)];
     for place in 0..point.len() {
         for bit in 0..8 {
             let mut turned = point.clone();
             turned[place] ^= 1 << bit;
-            cases.push(read(turned, 1, 2));
+            cases.push(read(version, turned, 1, 2));
         }
         let (before, after) = point.split_at(place);
-        cases.push(read([before, &after[1..]].concat(), 1, 2));
-        cases.push(read([before, &after[..1], after].concat(), 1, 2));
+        cases.push(read(version, [before, &after[1..]].concat(), 1, 2));
+        let doubled = [before, &after[..1], after].concat();
+        cases.push(read(version, doubled, 1, 2));
     }
     cases
 }
 
 /// Trees of which nothing but a clause of document 01 is wrong: 22, with no row lent.
-fn ill_formed() -> Vec<Case> {
-    let forms = ill_formed_forms().into_iter().enumerate();
+fn ill_formed(version: Version) -> Vec<Case> {
+    let forms = ill_formed_forms(version).into_iter().enumerate();
     let cases = forms.flat_map(|(index, bytes)| {
-        let with_room = (index % 3 == 0).then(|| read(bytes.clone(), MANY, MANY));
-        [read(bytes, 0, 0)].into_iter().chain(with_room)
+        let with_room = (index % 3 == 0).then(|| read(version, bytes.clone(), MANY, MANY));
+        [read(version, bytes, 0, 0)].into_iter().chain(with_room)
     });
     cases.collect()
 }
 
-fn ill_formed_forms() -> Vec<Vec<u8>> {
+fn ill_formed_forms(version: Version) -> Vec<Vec<u8>> {
+    let form = |lent: &Lent| bytes_of(&fields_of_store(version, lent));
     let broken = store_lists::broken().into_iter();
-    let kept = broken.filter(|(_, lent)| has_form(lent));
-    let mut forms: Vec<_> = kept
-        .map(|(_, lent)| bytes_of(&stored_cases::fields(&lent.text, &lent.rows)))
-        .collect();
+    let kept = broken.filter(|(_, lent)| has_form(version, lent));
+    let mut forms: Vec<_> = kept.map(|(_, lent)| form(&lent)).collect();
     // The most parts that a field can say.
     for kind in 2..=7 {
         for dimension in 0..4 {
-            let lent = Lent::of(b"", &[[kind, dimension, 65_535]], &[]);
-            forms.push(bytes_of(&stored_cases::fields(b"", &lent.rows)));
+            let lent = Lent::of(b"", &[[kind, dimension, most(version)]], &[]);
+            forms.push(form(&lent));
         }
     }
+    // Parts that are right but for one byte.
+    for byte in 1..version.width {
+        let mut fields = fields_of(version, POINTS);
+        let parts = &mut fields[1].content[2..];
+        parts[version.width - 1 - byte] = 1;
+        forms.push(bytes_of(&fields));
+    }
     // No node, but numbers.
-    let numbers = Lent::of(b"1", &[], &[[0, 1], [0, 1]]);
-    forms.push(bytes_of(&stored_cases::fields(b"1", &numbers.rows)));
+    forms.push(form(&Lent::of(b"1", &[], &[[0, 1], [0, 1]])));
     forms
 }
 
 /// Whether fields can hold rows: they have no half rows, no numbers outside the text and
 /// no values beyond their bytes.
-fn has_form(lent: &Lent) -> bool {
+fn has_form(version: Version, lent: &Lent) -> bool {
     let Rows { nodes, numbers } = &lent.rows;
+    let most_parts = most(version);
     let nodes_fit = nodes.chunks(3).all(|row| match row {
-        [kind, dimension, parts] => *kind <= 255 && *dimension <= 255 && *parts <= 65_535,
+        [kind, dimension, parts] => *kind <= 255 && *dimension <= 255 && *parts <= most_parts,
         _ => false,
     });
     let numbers_fit = numbers.chunks(2).all(|row| match row {
@@ -488,20 +536,20 @@ fn has_form(lent: &Lent) -> bool {
 }
 
 /// Each count of rows that is too small for some field, up to one more than is needed.
-fn rooms() -> Vec<Case> {
+fn rooms(version: Version) -> Vec<Case> {
     let mut cases = Vec::new();
     for text in [
         POINTS,
         "GEOMETRYCOLLECTION(POINT Z(1 2 3),LINESTRING EMPTY)",
     ] {
-        let fields = fields_of(text);
+        let fields = fields_of(version, text);
         let bytes = bytes_of(&fields);
         let is_node = |field: &&Field| field.tag == stored::NODE;
         let nodes = fields.iter().filter(is_node).count() as u32;
         let numbers = fields.len() as u32 - 1 - nodes;
         for node_rows in 0..=nodes + 1 {
             for number_rows in 0..=numbers + 1 {
-                cases.push(read(bytes.clone(), node_rows, number_rows));
+                cases.push(read(version, bytes.clone(), node_rows, number_rows));
             }
         }
         // Places that make no row.
@@ -509,8 +557,9 @@ fn rooms() -> Vec<Case> {
             for rows_less in [0, 1] {
                 let node_places = 3 * (nodes - rows_less) + beyond_nodes;
                 let number_places = 2 * (numbers - rows_less) + beyond_numbers;
-                cases.push(read_places(bytes.clone(), node_places, 2 * numbers));
-                cases.push(read_places(bytes.clone(), 3 * nodes, number_places));
+                let lent = |nodes, numbers| read_places(version, bytes.clone(), nodes, numbers);
+                cases.push(lent(node_places, 2 * numbers));
+                cases.push(lent(3 * nodes, number_places));
             }
         }
     }
@@ -524,28 +573,29 @@ fn well_formed() -> Vec<Lent> {
 }
 
 /// The stored form of a well-formed store.
-fn form_of(lent: &Lent) -> Vec<u8> {
+pub fn form_of(version: Version, lent: &Lent) -> Vec<u8> {
     let root = stores::tree(&lent.text, &lent.rows).ok();
-    stored::written(&root.expect("well formed")).expect("it fits")
+    stored::written(&root.expect("well formed"), version).expect("it fits")
 }
 
 /// Every kind and dimension, nested ones, spans that overlap: written into outputs of five
 /// lengths, and what was written read with the rows that it needs, with one less of each
 /// sort and with more.
-fn there_and_back() -> Vec<Case> {
+fn there_and_back(version: Version) -> Vec<Case> {
     let mut cases = Vec::new();
     for (index, lent) in well_formed().iter().enumerate() {
-        let bytes = form_of(lent);
+        let bytes = form_of(version, lent);
         let length = bytes.len() as u32;
         let rooms = [length, length - 1, length + 1, 0, length + MUCH];
-        cases.extend(rooms.map(|room| write_stored(lent, room)));
+        cases.extend(rooms.map(|room| write_stored(version, lent, room)));
         let nodes = lent.rows.nodes.len() as u32 / 3;
         let numbers = lent.rows.numbers.len() as u32 / 2;
-        cases.push(read(bytes.clone(), nodes, numbers));
-        cases.push(read(bytes.clone(), nodes - 1, numbers));
-        cases.push(read(bytes.clone(), nodes, numbers.saturating_sub(1)));
+        let again = |nodes, numbers| read(version, bytes.clone(), nodes, numbers);
+        cases.push(again(nodes, numbers));
+        cases.push(again(nodes - 1, numbers));
+        cases.push(again(nodes, numbers.saturating_sub(1)));
         if index % 3 == 0 {
-            cases.push(read(bytes, nodes + 2, numbers + MANY));
+            cases.push(again(nodes + 2, numbers + MANY));
         }
     }
     cases
@@ -553,7 +603,7 @@ fn there_and_back() -> Vec<Case> {
 
 /// Good and bad number texts in a field, and to be written; none at all, as the first
 /// number and as the last.
-fn number_texts() -> Vec<Case> {
+fn number_texts(version: Version) -> Vec<Case> {
     let mut cases = Vec::new();
     let more = [
         &b""[..],
@@ -567,18 +617,18 @@ fn number_texts() -> Vec<Case> {
     ];
     let more = more.into_iter().map(store_lists::one_number);
     for lent in store_lists::number_texts().into_iter().chain(more) {
-        cases.push(write_stored(&lent, ROOMY));
-        let mut fields = stored_cases::fields(&lent.text, &lent.rows);
-        cases.push(read(bytes_of(&fields), 1, 2));
+        cases.push(write_stored(version, &lent, ROOMY));
+        let mut fields = fields_of_store(version, &lent);
+        cases.push(read(version, bytes_of(&fields), 1, 2));
         let last = fields.len() - 1;
         fields.swap(last - 1, last);
-        cases.push(read(bytes_of(&fields), 1, 2));
+        cases.push(read(version, bytes_of(&fields), 1, 2));
     }
     cases
 }
 
 /// Counts, parts and lengths that need their high byte, or just don't.
-fn high_bytes() -> Vec<Case> {
+fn high_bytes(version: Version) -> Vec<Case> {
     let text = vec![b'7'; 300];
     let nodes = [255, 256, 257].map(|count| points_and_line(&text, count, &[]));
     let numbers = [254, 256, 258, 514].map(|count| {
@@ -591,140 +641,169 @@ fn high_bytes() -> Vec<Case> {
     });
     let mut cases = Vec::new();
     for lent in nodes.iter().chain(&numbers).chain(&lengths) {
-        let bytes = form_of(lent);
-        let places = [lent.rows.nodes.len() as u32, lent.rows.numbers.len() as u32];
-        cases.push(write_stored(lent, bytes.len() as u32));
-        cases.push(write_stored(lent, bytes.len() as u32 - 1));
-        cases.push(read_places(bytes.clone(), places[0], places[1]));
-        cases.push(read_places(bytes.clone(), places[0] - 1, places[1]));
-        cases.push(read_places(bytes, places[0], places[1].saturating_sub(1)));
+        let bytes = form_of(version, lent);
+        let (nodes, numbers) = (lent.rows.nodes.len() as u32, lent.rows.numbers.len() as u32);
+        cases.push(write_stored(version, lent, bytes.len() as u32));
+        cases.push(write_stored(version, lent, bytes.len() as u32 - 1));
+        let again = |nodes, numbers| read_places(version, bytes.clone(), nodes, numbers);
+        cases.push(again(nodes, numbers));
+        cases.push(again(nodes - 1, numbers));
+        cases.push(again(nodes, numbers.saturating_sub(1)));
     }
     cases
 }
 
 /// Ill-formed stores with much output and with none (22 before 23), and parts that no field
 /// can say in a store that is ill formed (22 before 27); texts of any length and bytes.
-fn writings() -> Vec<Case> {
+fn writings(version: Version) -> Vec<Case> {
     let mut cases = Vec::new();
     for (index, (_, lent)) in store_lists::broken().iter().enumerate() {
-        cases.push(write_stored(lent, ROOMY));
+        cases.push(write_stored(version, lent, ROOMY));
         if index % 3 == 0 {
-            cases.push(write_stored(lent, 0));
+            cases.push(write_stored(version, lent, 0));
         }
     }
     for parts in [65_534, 65_535, 65_536, 65_537, 131_072] {
         for kind in [2, 5, 7] {
             let lent = Lent::of(b"1", &[[kind, 0, parts]], &[]);
-            cases.push(write_stored(&lent, ROOMY));
+            cases.push(write_stored(version, &lent, ROOMY));
         }
     }
     for lent in store_lists::any_text() {
-        let length = form_of(&lent).len() as u32;
-        cases.push(write_stored(&lent, length));
-        cases.push(write_stored(&lent, length - 1));
+        let length = form_of(version, &lent).len() as u32;
+        cases.push(write_stored(version, &lent, length));
+        cases.push(write_stored(version, &lent, length - 1));
     }
     cases
 }
 
 /// Number texts of 65,535 bytes, which fit, and of one byte more, which don't: as the first
 /// number and as the last, before 23 and behind 22.
-fn long_numbers() -> Vec<Case> {
+fn long_numbers(version: Version) -> Vec<Case> {
     let text = vec![b'7'; LONGEST_NUMBER + 1];
     let (fits, too_long) = (LONGEST_NUMBER as u32, LONGEST_NUMBER as u32 + 1);
     let point = |spans: &[[u32; 2]]| Lent::of(&text, &[[1, 0, 1]], spans);
     let first = point(&[[1, fits], [0, 1]]);
-    let length = form_of(&first).len() as u32;
+    let form = form_of(version, &first);
+    let length = form.len() as u32;
     let mut no_number = point(&[[0, too_long], [0, 1]]);
     no_number.text[LONGEST_NUMBER] = b'x';
     let no_tree = Lent::of(&text, &[[1, 0, 2]], &[[0, too_long], [0, 1]]);
+    let write = |lent: &Lent, output| write_stored(version, lent, output);
     let mut cases = vec![
-        write_stored(&first, length),
-        write_stored(&first, length - 1),
-        write_stored(&point(&[[0, too_long], [0, 1]]), MAX_OUTPUT),
-        write_stored(&point(&[[0, 1], [0, too_long]]), 0),
-        write_stored(&no_number, MAX_OUTPUT),
-        write_stored(&no_tree, 0),
-        read(form_of(&first), 1, 2),
-        read(form_of(&first), 1, 1),
+        write(&first, length),
+        write(&first, length - 1),
+        write(&point(&[[0, too_long], [0, 1]]), MAX_OUTPUT),
+        write(&point(&[[0, 1], [0, too_long]]), 0),
+        write(&no_number, MAX_OUTPUT),
+        write(&no_tree, 0),
+        read(version, form.clone(), 1, 2),
+        read(version, form.clone(), 1, 1),
     ];
     // The longest stored bytes of a record.
-    let length = MAX_TEXT - (form_of(&first).len() - 1);
+    let length = MAX_TEXT - (form.len() - 1);
     let two = point(&[[1, fits], [0, length as u32]]);
-    cases.push(read(form_of(&two), 1, 2));
+    cases.push(read(version, form_of(version, &two), 1, 2));
     cases
 }
 
-/// 1,048,576 bytes fit the form, though not the output (23); one more doesn't (27).
-fn wholes() -> Vec<Case> {
+/// As many bytes as a version may have fit the form, though not the output (23); one more
+/// doesn't (27). Those of version 2 are so large that there are few of them.
+fn wholes(version: Version) -> Vec<Case> {
+    let most = version.longest;
+    let lengths = match version.number {
+        1 => vec![most - 1, most, most + 1, most + 2, 2 * most],
+        _ => vec![most, most + 1],
+    };
+    let whole = |length: usize| {
+        let (text, rows) = stored_cases::line_of(version, length);
+        Lent { text, rows }
+    };
     let mut cases = Vec::new();
-    for length in [LONGEST - 1, LONGEST, LONGEST + 1, LONGEST + 2, 2 * LONGEST] {
-        let (text, rows) = stored_cases::line_of(length);
-        for output in [MAX_OUTPUT, 0] {
-            let request = Request::WriteStored {
-                output,
-                rows: rows.clone(),
-            };
-            let text = text.clone();
-            cases.push(Case { request, text });
+    for length in lengths {
+        let whole = whole(length);
+        cases.push(write_stored(version, &whole, MAX_OUTPUT));
+        if version.number == 1 {
+            cases.push(write_stored(version, &whole, 0));
         }
     }
-    let (text, mut rows) = stored_cases::line_of(LONGEST + 1);
-    rows.numbers.pop();
-    let request = Request::WriteStored {
-        output: MAX_OUTPUT,
-        rows,
-    };
-    cases.push(Case { request, text });
+    let mut half_row = whole(most + 1);
+    half_row.rows.numbers.pop();
+    cases.push(write_stored(version, &half_row, MAX_OUTPUT));
     cases
 }
 
-/// The largest records: every slice and text as large as it may be (23), an output with no
-/// byte left, and stored bytes with as many nodes or numbers as there may be.
+/// The largest records of each version.
 pub fn largest() -> Vec<Case> {
+    VERSIONS.into_iter().flat_map(largest_of).collect()
+}
+
+/// Every slice and text as large as it may be (23), an output with no byte left, and stored
+/// bytes with as many nodes or numbers as there may be.
+fn largest_of(version: Version) -> Vec<Case> {
+    // What a record's bytes are used up by: the header, a node and a number of one byte.
+    let header = 3 + version.header_length();
+    let node = 3 + version.node_length();
+    let number = 4;
     let most_nodes = MAX_SLICE / 3;
     let most_numbers = MAX_SLICE / 2;
     let last = MAX_TEXT as u32 - 1;
     let text = vec![b'7'; MAX_TEXT];
     let spans = vec![[last, 1]; most_numbers as usize];
     let full = points_and_line(&text, most_nodes, &spans);
-    let nodes = (MAX_OUTPUT - 8 - 4 * most_numbers) / 7;
-    let mut exact = points_and_line(&text, nodes, &spans);
-    let spare = MAX_OUTPUT as usize - form_of(&exact).len();
+    let nodes = (MAX_OUTPUT as usize - header - number * most_numbers as usize) / node;
+    let mut exact = points_and_line(&text, nodes as u32, &spans);
+    let spare = MAX_OUTPUT as usize - form_of(version, &exact).len();
     exact.rows.numbers[..2].copy_from_slice(&[0, 1 + spare as u32]);
-    let nodes = form_of(&points_and_line(&text, (MAX_TEXT as u32 - 8) / 7, &[]));
-    let numbers = (MAX_TEXT - 8 - 14) / 8 * 2;
-    let numbers = form_of(&points_and_line(&text, 2, &spans[..numbers]));
+    let nodes = points_and_line(&text, ((MAX_TEXT - header) / node) as u32, &[]);
+    let numbers = (MAX_TEXT - header - 2 * node) / (2 * number) * 2;
+    let numbers = points_and_line(&text, 2, &spans[..numbers]);
+    let read = |lent: &Lent, nodes, numbers| {
+        let form = form_of(version, lent);
+        read_places(version, form, nodes, numbers)
+    };
     vec![
-        write_stored(&full, MAX_OUTPUT),
-        write_stored(&exact, MAX_OUTPUT),
-        write_stored(&exact, MAX_OUTPUT - 1),
-        read_places(nodes.clone(), MAX_SLICE, MAX_SLICE),
-        read_places(nodes, MAX_SLICE / 2, 0),
-        read_places(numbers.clone(), MAX_SLICE, MAX_SLICE),
-        read_places(numbers, 6, 60_000),
+        write_stored(version, &full, MAX_OUTPUT),
+        write_stored(version, &exact, MAX_OUTPUT),
+        write_stored(version, &exact, MAX_OUTPUT - 1),
+        read(&nodes, MAX_SLICE, MAX_SLICE),
+        read(&nodes, 30_000, 0),
+        read(&numbers, MAX_SLICE, MAX_SLICE),
+        read(&numbers, 6, 60_000),
     ]
 }
 
 /// A collection of a line string and empty points, so many nodes in all.
-fn points_and_line(text: &[u8], nodes: u32, spans: &[[u32; 2]]) -> Lent {
+pub fn points_and_line(text: &[u8], nodes: u32, spans: &[[u32; 2]]) -> Lent {
     let mut rows = vec![[7, 0, nodes - 1], [2, 0, spans.len() as u32 / 2]];
     rows.resize(nodes as usize, [1, 0, 0]);
     Lent::of(text, &rows, spans)
 }
 
+/// Versions that no request gives, some of which are known ones in their low byte.
+const NO_VERSIONS: [u32; 10] = [0, 3, 4, 255, 257, 258, 65_538, 1 << 24, 2 << 24, u32::MAX];
+
 /// Bodies of records that have no answer: cut, too large, of another version or letter.
 fn bad_records() -> Vec<Vec<u8>> {
-    let empty = bytes_of(&fields_of("POINT EMPTY"));
+    let empty = VERSIONS.map(|version| bytes_of(&fields_of(version, "POINT EMPTY")));
     let mut records = vec![Vec::new()];
     for letter in [b'r', b'w', b's', b't', b'i', b'm', b'l', b'x', 0, 255] {
-        records.push(record(letter, &[1, 3, 0, 1, 0, 0], &empty));
+        records.push(record(letter, &[1, 3, 0, 1, 0, 0], &empty[0]));
     }
-    for version in [0, 2, 3, 257, 65_537, 1 << 24, u32::MAX] {
-        records.push(record(b'S', &[version, 15, 3, 0, 1, 0, 0], b""));
-        records.push(record(b'L', &[version, 3, 0], &empty));
+    for (index, version) in NO_VERSIONS.into_iter().enumerate() {
+        records.push(record(b'S', &[version, 21, 3, 0, 1, 0, 0], b""));
+        records.push(record(b'L', &[version, 3, 0], &empty[index % 2]));
     }
-    records.extend(bad_writings());
-    records.extend(bad_readings(&empty));
+    // The version is cut.
+    for letter in [b'S', b'L'] {
+        for cut in [&[][..], &[0], &[1], &[2], &[0; 3], &[1, 0, 0], &[2, 0, 0]] {
+            records.push(record(letter, &[], cut));
+        }
+    }
+    for (version, empty) in VERSIONS.into_iter().zip(&empty) {
+        records.extend(bad_writings(version));
+        records.extend(bad_readings(version, empty));
+    }
     records
 }
 
@@ -738,32 +817,34 @@ fn record(letter: u8, fields: &[u32], rest: &[u8]) -> Vec<u8> {
 /// So many places have as many bytes as none where these are counted in 32 bits.
 const WRAPPING: u32 = 1 << 30;
 
-fn bad_writings() -> Vec<Vec<u8>> {
-    let fields: [&[u32]; 13] = [
+fn bad_writings(version: Version) -> Vec<Vec<u8>> {
+    let version = u32::from(version.number);
+    let fields: [&[u32]; 12] = [
         &[],
-        &[1],
-        &[1, 15],
-        &[1, 15, 3],
-        &[1, 15, 3, 0],
-        &[1, 15, 3, 0, 1, 0],
-        &[1, 15, 3, 2, 1, 0, 0, 0],
-        &[1, MAX_OUTPUT + 1, 3, 0, 1, 0, 0],
-        &[1, u32::MAX, 3, 0, 1, 0, 0],
-        &[1, 15, MAX_SLICE + 1, 0, 1, 0, 0],
-        &[1, 15, 0, MAX_SLICE + 1, 1, 0, 0],
-        &[1, 15, u32::MAX, u32::MAX, 1, 0, 0],
-        &[1, 15, WRAPPING, 0, 1, 0, 0],
+        &[21],
+        &[21, 3],
+        &[21, 3, 0],
+        &[21, 3, 0, 1, 0],
+        &[21, 3, 2, 1, 0, 0, 0],
+        &[MAX_OUTPUT + 1, 3, 0, 1, 0, 0],
+        &[u32::MAX, 3, 0, 1, 0, 0],
+        &[21, MAX_SLICE + 1, 0, 1, 0, 0],
+        &[21, 0, MAX_SLICE + 1, 1, 0, 0],
+        &[21, u32::MAX, u32::MAX, 1, 0, 0],
+        &[21, WRAPPING, 0, 1, 0, 0],
     ];
     let records = fields.into_iter().flat_map(|fields| {
+        let fields = [&[version], fields].concat();
         let cut = b"\0\0\0";
-        [record(b'S', fields, b""), record(b'S', fields, cut)]
+        [record(b'S', &fields, b""), record(b'S', &fields, cut)]
     });
     records.collect()
 }
 
-fn bad_readings(form: &[u8]) -> Vec<Vec<u8>> {
+fn bad_readings(version: Version, form: &[u8]) -> Vec<Vec<u8>> {
+    let version = u32::from(version.number);
     let mut records = Vec::new();
-    for fields in [&[][..], &[1], &[1, 3]] {
+    for fields in [&[version][..], &[version, 3]] {
         records.push(record(b'L', fields, b""));
         records.push(record(b'L', fields, b"\0\0\0"));
     }
@@ -773,10 +854,10 @@ fn bad_readings(form: &[u8]) -> Vec<Vec<u8>> {
         (u32::MAX, u32::MAX),
         (WRAPPING, WRAPPING),
     ] {
-        records.push(record(b'L', &[1, nodes, numbers], form));
+        records.push(record(b'L', &[version, nodes, numbers], form));
     }
     let too_long = vec![1; MAX_TEXT + 1];
-    records.push(record(b'L', &[1, 3, 0], &too_long));
+    records.push(record(b'L', &[version, 3, 0], &too_long));
     records
 }
 
@@ -794,34 +875,39 @@ mod tests {
 
     #[test]
     fn each_broken_form_is_refused_where_it_is_broken() {
-        for (number, place, bytes) in broken() {
-            let refusal = stored::read(&bytes, Room::ANY).expect_err("broken");
-            assert_eq!(
-                (refusal.number(), refusal.place),
-                (number, place),
-                "{bytes:02x?}"
-            );
+        for version in VERSIONS {
+            for (number, place, bytes) in broken(version) {
+                let refusal = stored::read(&bytes, version, Room::ANY).expect_err("broken");
+                assert_eq!(
+                    (refusal.number(), refusal.place),
+                    (number, place),
+                    "{bytes:02x?}"
+                );
+            }
         }
     }
 
     #[test]
     fn each_ill_formed_form_has_its_fields_in_order() {
-        for bytes in ill_formed_forms() {
-            let refusal = stored::read(&bytes, Room::ANY).expect_err("ill formed");
-            assert!(
-                matches!(refusal.reason, Reason::IllFormed(_)),
-                "{bytes:02x?}"
-            );
+        for version in VERSIONS {
+            for bytes in ill_formed_forms(version) {
+                let refusal = stored::read(&bytes, version, Room::ANY).expect_err("ill formed");
+                assert!(
+                    matches!(refusal.reason, Reason::IllFormed(_)),
+                    "{bytes:02x?}"
+                );
+            }
         }
     }
 
     #[test]
     fn rows_are_asked_for_in_order() {
-        let fields = fields_of(POINTS);
-        let (bytes, starts) = (bytes_of(&fields), starts(&fields));
-        for nodes in 0..=4 {
-            for numbers in 0..=5 {
-                let line = answer(&read(bytes.clone(), nodes, numbers));
+        for version in VERSIONS {
+            let fields = fields_of(version, POINTS);
+            let (bytes, starts) = (bytes_of(&fields), starts(&fields));
+            let rows = (0..=4).flat_map(|nodes| (0..=5).map(move |numbers| (nodes, numbers)));
+            for (nodes, numbers) in rows {
+                let line = answer(&read(version, bytes.clone(), nodes, numbers));
                 let expected = match (nodes as usize, numbers as usize) {
                     (0..3, _) => [3, starts[1 + nodes as usize] as u32],
                     (_, 0..4) => [4, starts[4 + numbers as usize] as u32],
@@ -835,27 +921,41 @@ mod tests {
     #[test]
     fn the_limits_of_the_form() {
         let numbers = |cases: Vec<Case>| cases.iter().map(|case| answer(case)[0]).collect();
-        let long: Vec<u32> = numbers(long_numbers());
-        assert_eq!(long, [0, 23, 27, 27, 22, 22, 0, 4, 0]);
-        let wholes: Vec<u32> = numbers(wholes());
-        assert_eq!(wholes, [23, 23, 23, 23, 27, 27, 27, 27, 27, 27, 22]);
+        for version in VERSIONS {
+            let long: Vec<u32> = numbers(long_numbers(version));
+            assert_eq!(long, [0, 23, 27, 27, 22, 22, 0, 4, 0]);
+        }
+        let one: Vec<u32> = numbers(wholes(VERSIONS[0]));
+        assert_eq!(one, [23, 23, 23, 23, 27, 27, 27, 27, 27, 27, 22]);
+        let two: Vec<u32> = numbers(wholes(VERSIONS[1]));
+        assert_eq!(two, [23, 27, 22]);
     }
 
     #[test]
     fn the_largest_records_are_as_large_as_they_may_be() {
-        let cases = largest();
-        let answers: Vec<_> = cases.iter().map(answer).collect();
-        let numbers: Vec<u32> = answers.iter().map(|answer| answer[0]).collect();
-        assert_eq!(numbers, [23, 0, 23, 0, 3, 0, 4]);
-        assert_eq!(answers[1][2], MAX_OUTPUT);
-        let Request::WriteStored { rows, .. } = &cases[0].request else {
-            panic!("a writer's record comes first")
-        };
-        assert_eq!(rows.nodes.len(), MAX_SLICE as usize);
-        assert_eq!(rows.numbers.len(), MAX_SLICE as usize);
-        assert_eq!(cases[0].text.len(), MAX_TEXT);
-        assert!(cases[3..].iter().all(|case| case.text.len() > MAX_TEXT - 8));
-        let longest = long_numbers().pop().map(|case| case.text.len());
-        assert_eq!(longest, Some(MAX_TEXT));
+        for version in VERSIONS {
+            let cases = largest_of(version);
+            let answers: Vec<_> = cases.iter().map(answer).collect();
+            let numbers: Vec<u32> = answers.iter().map(|answer| answer[0]).collect();
+            assert_eq!(numbers, [23, 0, 23, 0, 3, 0, 4]);
+            assert_eq!(answers[1][2], MAX_OUTPUT);
+            let Request::WriteStored { rows, .. } = &cases[0].request else {
+                panic!("a writer's record comes first")
+            };
+            assert_eq!(rows.nodes.len(), MAX_SLICE as usize);
+            assert_eq!(rows.numbers.len(), MAX_SLICE as usize);
+            assert_eq!(cases[0].text.len(), MAX_TEXT);
+            let mut readings = cases[3..].iter();
+            assert!(readings.all(|case| case.text.len() > MAX_TEXT - 10));
+            let longest = long_numbers(version).pop().map(|case| case.text.len());
+            assert_eq!(longest, Some(MAX_TEXT));
+        }
+    }
+
+    #[test]
+    fn no_bad_record_comes_twice() {
+        let records = bad_records();
+        let different: HashSet<_> = records.iter().collect();
+        assert_eq!(different.len(), records.len());
     }
 }

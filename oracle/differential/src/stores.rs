@@ -25,7 +25,7 @@ const NAMES: [&str; 7] = [
     "GEOMETRYCOLLECTION",
 ];
 /// By dimension.
-const ENDINGS: [&str; 4] = ["", " Z", " M", " ZM"];
+pub const ENDINGS: [&str; 4] = ["", " Z", " M", " ZM"];
 pub const WIDTHS: [usize; 4] = [2, 3, 3, 4];
 
 const FEWEST_OF_LINE: usize = 2;

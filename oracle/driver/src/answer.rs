@@ -12,7 +12,7 @@ pub const NOT_UTF8: &str = "not utf8";
 pub const NOT_COMPARABLE: &str = "not comparable";
 
 /// The Rust's reader and the dropping of its trees recurse at every collection; the
-/// deepest text of a record (some 7,000 collections) needs far less than this.
+/// deepest text that it is given (40,000 collections) needs far less than this.
 pub const STACK_BYTES: usize = 1 << 30;
 
 pub fn line(record: &Record) -> String {

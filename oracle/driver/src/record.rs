@@ -6,9 +6,6 @@ pub const MAX_TEXT: usize = 131_072;
 pub const MAX_SLICE: u32 = 98_304;
 pub const MAX_OUTPUT: u32 = 262_144;
 
-/// The version of the stored form that is asked for: a field of `S` and `L`.
-pub const STORED_VERSION: u32 = 1;
-
 /// The rows of a store, place by place: kind, dimension and parts of each node, start
 /// and length of each number.
 #[derive(Clone, Debug, Default, PartialEq, Eq)]
@@ -32,11 +29,19 @@ pub enum Request {
     Check { rows: Rows },
     /// `i`: infer_type.
     Infer,
-    /// `S`: the stored writer, lent these rows and an output of this length.
-    WriteStored { output: u32, rows: Rows },
-    /// `L`: the stored reader, lent two slices of these lengths; the text is the stored
-    /// bytes.
-    ReadStored { nodes: u32, numbers: u32 },
+    /// `S`: the stored writer of a version, lent these rows and an output of this length.
+    WriteStored {
+        version: u8,
+        output: u32,
+        rows: Rows,
+    },
+    /// `L`: the stored reader of a version, lent two slices of these lengths; the text is
+    /// the stored bytes.
+    ReadStored {
+        version: u8,
+        nodes: u32,
+        numbers: u32,
+    },
     /// `b`: the boxes, lent these rows and a table of so many i64 places.
     Boxes { table: u32, rows: Rows },
 }
@@ -62,6 +67,30 @@ impl Request {
         }
     }
 
+    /// The rows that are lent, if any are.
+    pub fn rows(&self) -> Option<&Rows> {
+        match self {
+            Request::Write { rows, .. }
+            | Request::Check { rows }
+            | Request::WriteStored { rows, .. }
+            | Request::Boxes { rows, .. } => Some(rows),
+            _ => None,
+        }
+    }
+
+    /// The same with other rows, if any are lent.
+    pub fn with_rows(&self, other: Rows) -> Self {
+        let mut request = self.clone();
+        match &mut request {
+            Request::Write { rows, .. }
+            | Request::Check { rows }
+            | Request::WriteStored { rows, .. }
+            | Request::Boxes { rows, .. } => *rows = other,
+            _ => {}
+        }
+        request
+    }
+
     /// The fields, and the rows behind them.
     fn fields(&self) -> Vec<u32> {
         match self {
@@ -72,10 +101,16 @@ impl Request {
             Request::Write { output, rows } => [vec![*output], rows.fields()].concat(),
             Request::Check { rows } => rows.fields(),
             Request::Infer => vec![],
-            Request::WriteStored { output, rows } => {
-                [vec![STORED_VERSION, *output], rows.fields()].concat()
-            }
-            Request::ReadStored { nodes, numbers } => vec![STORED_VERSION, *nodes, *numbers],
+            Request::WriteStored {
+                version,
+                output,
+                rows,
+            } => [vec![u32::from(*version), *output], rows.fields()].concat(),
+            Request::ReadStored {
+                version,
+                nodes,
+                numbers,
+            } => vec![u32::from(*version), *nodes, *numbers],
             Request::Boxes { table, rows } => [vec![*table], rows.fields()].concat(),
         }
     }
@@ -196,13 +231,18 @@ mod tests {
             nodes: vec![1, 0, 0],
             numbers: vec![],
         };
-        let write = Request::WriteStored { output: 15, rows };
+        let write = Request::WriteStored {
+            version: 1,
+            output: 15,
+            rows,
+        };
         let read = Request::ReadStored {
+            version: 2,
             nodes: 3,
-            numbers: 2,
+            numbers: 4,
         };
         assert_eq!(write.fields(), [1, 15, 3, 0, 1, 0, 0]);
-        assert_eq!(read.fields(), [1, 3, 2]);
+        assert_eq!(read.fields(), [2, 3, 4]);
         assert_eq!([write.letter(), read.letter()], *b"SL");
     }
 

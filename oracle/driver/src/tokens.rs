@@ -117,6 +117,32 @@ pub enum Demand {
 /// Demands `count` tokens from `place` on, which past the end is the end.
 /// `None` if a character of the text lies across the place: the Rust can't start there.
 pub fn take(text: &str, place: usize, count: usize, demand: Demand) -> Option<Vec<Placed>> {
+    take_until(text, place, demand, |taken| taken.len() == count)
+}
+
+/// Demands tokens from `place` on until the true end answers, which is the last one.
+pub fn take_all(text: &str, place: usize) -> Option<Vec<Placed>> {
+    let at_end = Placed {
+        place: text.len(),
+        seen: Seen::NoToken,
+    };
+    take_until(text, place, Demand::Take, |taken| {
+        taken.last() == Some(&at_end)
+    })
+}
+
+/// How many demands from `place` on it takes until the true end has answered twice.
+pub fn demands_past_end(text: &str, place: usize) -> Option<usize> {
+    take_all(text, place).map(|taken| taken.len() + 1)
+}
+
+/// Demands tokens from `place` on until what was taken is enough.
+fn take_until(
+    text: &str,
+    place: usize,
+    demand: Demand,
+    is_enough: impl Fn(&[Placed]) -> bool,
+) -> Option<Vec<Placed>> {
     kept::forget_texts();
     let start = place.min(text.len());
     let latest_place = Cell::new(start);
@@ -126,33 +152,19 @@ pub fn take(text: &str, place: usize, count: usize, demand: Demand) -> Option<Ve
         latest_place: &latest_place,
     };
     let mut tokens = placed_tokens.peekable();
-    let take_one = || {
+    let mut taken = Vec::new();
+    while !is_enough(&taken) {
         if demand == Demand::LookAndTake {
             let first_look = tokens.peek().copied();
             assert_eq!(first_look, tokens.peek().copied());
         }
-        tokens.next().unwrap_or(Placed {
+        let token = tokens.next();
+        taken.push(token.unwrap_or(Placed {
             place: latest_place.get(),
             seen: Seen::NoToken,
-        })
-    };
-    Some(std::iter::repeat_with(take_one).take(count).collect())
-}
-
-/// How many demands from `place` on it takes until the true end has answered twice.
-pub fn demands_past_end(text: &str, place: usize) -> Option<usize> {
-    let at_end = Placed {
-        place: text.len(),
-        seen: Seen::NoToken,
-    };
-    let mut count = 1;
-    loop {
-        let tokens = take(text, place, count, Demand::Take)?;
-        match tokens.iter().position(|token| *token == at_end) {
-            Some(first_end) => return Some(first_end + 2),
-            None => count = 2 * count + 8,
-        }
+        }));
     }
+    Some(taken)
 }
 
 /// The line that answers a record of letter `t` or `p`.
