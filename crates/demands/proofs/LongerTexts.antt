@@ -1,7 +1,7 @@
 -- Request 2026-05 over calls of `read` and `infer_type`: shorter texts are answered as before, and 1 is told of exactly those over 4,194,304 bytes.
 -- Assumes nothing.
-use mathlib.Core.Path.{_≡_, refl, ap, sym, _∙_}
-use mathlib.Core.Bool.{true, false}
+use mathlib.Core.Path.{_≡_, ap, sym, _∙_}
+use mathlib.Core.Bool.{false}
 use mathlib.Core.List.{List, []}
 use Prim.Native.Nat.{ℕ, _-_, _≤_, _<_}
 use native.Mathlib.Omega.{arith}
@@ -11,12 +11,12 @@ use borrow.Author.Tests.{le-ltb, lt-ltb, ltb-true}
 use Rattle.limits.specs.Limits.{textLimit, overLimit}
 use Rattle.store.specs.Rows.{nodeRoom, numberRoom, zeros, padded}
 use Rattle.store.specs.declared.ReadAnswer.{ReadAnswer}
-use Rattle.grammar.specs.Grammar.{Got, refused, refusal}
+use Rattle.grammar.specs.Grammar.{refused, refusal}
+use Rattle.grammar.specs.Refused.{too-long}
 use Rattle.grammar.specs.Reading.{reading}
 use Rattle.wkt.specs.Leaves.{Leaves}
 use Rattle.infer_type.specs.Infer.{inferType}
-use Rattle.demands.specs.Calls.{Read}
-use Rattle.demands.specs.LongerTexts.{formerLimit, newLimit, readingWithin, inferWithin, ReadStays, InferStays, LongRefused, ReadLong, InferLong}
+use Rattle.demands.specs.LongerTexts.{formerLimit, readingWithin, inferWithin, ReadStays, InferStays, ReadLong, InferLong}
 use Rattle.demands.proofs.Demand1.{read-too-long}
 
 module _ (text : List ℕ) (h : length text ≤ formerLimit) where
@@ -46,21 +46,17 @@ infer-stays text r h = ((λ x. x ∙ same-inference text h), λ x. x ∙ sym (sa
 all-zero : (n : ℕ) → padded [] n ≡ zeros n
 all-zero n = let z : n - 0 ≡ n = omega arith in ap zeros z
 
-long-reading : (N M : ℕ) (text : List ℕ) → newLimit < length text → reading N M text ≡ refused (refusal 1 newLimit)
-unfolding reading
-long-reading N M text l = rw (lt-ltb newLimit (length text) l)
-
 pub read-long : ReadLong
 read-long text ns ms a ns′ ms′ r = record {
-  exactly = ((λ e. ltb-true newLimit (length text) (read-too-long text ns ms a ns′ ms′ r .0 e)), λ l. read-too-long text ns ms a ns′ ms′ r .1 (lt-ltb newLimit (length text) l));
+  exactly = ((λ e. ltb-true textLimit (length text) (read-too-long text ns ms a ns′ ms′ r .0 e)), λ l. read-too-long text ns ms a ns′ ms′ r .1 (lt-ltb textLimit (length text) l));
   place = λ l. ap (λ (x : ReadAnswer). x .place) (left l .answer);
   nodes-zero = λ l. left l .nodes ∙ all-zero (length ns);
   numbers-zero = λ l. left l .numbers ∙ all-zero (length ms);
 }
   where
-    left : newLimit < length text → Leaves (refused (refusal 1 newLimit)) ns ms a ns′ ms′
-    left l = rw (long-reading (nodeRoom ns) (numberRoom ms) text l) at r
+    left : textLimit < length text → Leaves (refused (refusal 1 textLimit)) ns ms a ns′ ms′
+    left l = rw (too-long (nodeRoom ns) (numberRoom ms) text (lt-ltb textLimit (length text) l)) at r
 
 pub infer-long : InferLong
 unfolding inferType
-infer-long text r e l = e ∙ rw (lt-ltb newLimit (length text) l)
+infer-long text r e l = e ∙ rw (lt-ltb textLimit (length text) l)

@@ -28,12 +28,12 @@ use Rattle.stored_form.proofs.Fits.{fits-each}
 use Rattle.stored.specs.Faults.{OtherVersion, too-long, other-version}
 use Rattle.demands.specs.Stored.{storedIn, storeFits, storeBytes, Storing, no-store, unfit, kept}
 use Rattle.demands.specs.Stored as demand
-use Rattle.demands.specs.Versions.{KeepsTrees, EachItsOwn, LongTextUnfit}
+use Rattle.demands.specs.Versions.{VersionKeeps, EachItsOwn, LongTextUnfit}
 use Rattle.demands.proofs.Stored.{one-stored-write, one-stored-read, stored-one-writing-of-trees, stored-one-writing, stored-equal, stored-reads-back, stored-again, stored-taken, stored-round, stored-read-accepts, stored-read-refuses, stored-read-exactly, stored-write-answers, stored-write-refuses}
 
 -- ---- any version, and the two that there are
-pub keeps-trees : (v : Version) → Known v → KeepsTrees v
-keeps-trees v known = record {
+pub any-version-keeps : (v : Version) → Known v → VersionKeeps v
+any-version-keeps v known = record {
   one-write = one-stored-write v known;
   one-read = one-stored-read v known;
   one-writing-of-trees = stored-one-writing-of-trees v known;
@@ -50,11 +50,11 @@ keeps-trees v known = record {
   write-refuses = stored-write-refuses v known;
 }
 
-pub version-1-keeps-trees : KeepsTrees version1
-version-1-keeps-trees = keeps-trees version1 (known-of First)
+pub version-1-keeps : VersionKeeps version1
+version-1-keeps = any-version-keeps version1 (known-of First)
 
-pub version-2-keeps-trees : KeepsTrees version2
-version-2-keeps-trees = keeps-trees version2 (known-of Second)
+pub version-2-keeps : VersionKeeps version2
+version-2-keeps = any-version-keeps version2 (known-of Second)
 
 -- ---- each its own
 -- what stands in front: the head's tag, two bytes of its length, the version

@@ -1,5 +1,5 @@
 -- Request 2026-05, "Longer coastlines", over calls of `read` and `infer_type`: "The text limit goes from 65,535 to 4,194,304 bytes in refusal 1, its place and demands 1
--- to 3." Demands 1 to 3 are over `textLimit`, so they say this already; here stands what it comes to in numbers, and that "Nothing but the numbers may change for
+-- to 3." Demands 1 to 3 are over `textLimit`, so they say this already; here stands what it comes to, and that "Nothing but the numbers may change for
 -- shorter texts". The theorems that give these are in proofs/LongerTexts.
 use mathlib.Core.Path.{_≡_}
 use mathlib.Core.Bool.{cond, not}
@@ -8,7 +8,7 @@ use mathlib.Core.List.{List}
 use Prim.Native.Nat.{ℕ, _≤_, _<_}
 use lib.Dec.{ltb}
 use lib.ListN.{length}
-use Rattle.limits.specs.Limits.{depthLimit}
+use Rattle.limits.specs.Limits.{textLimit, depthLimit}
 use Rattle.refusals.specs.Refusals.{textTooLong, illFormedUtf8}
 use Rattle.utf8.specs.Utf8.{isUtf8, firstIll}
 use Rattle.store.specs.Rows.{nodeRoom, numberRoom, zeros}
@@ -23,12 +23,9 @@ use Rattle.infer_type.specs.Infer as infer
 use Rattle.infer_type.specs.Infer.{inferLooked}
 use Rattle.demands.specs.Calls.{Read, Inferring}
 
--- "from 65,535 to 4,194,304"
+-- "from 65,535"
 abbrev pub formerLimit : ℕ
 formerLimit = 65535
-
-abbrev pub newLimit : ℕ
-newLimit = 4194304
 
 -- what a text comes to under any limit, and what infer_type answers: the limit stands in 1 and in its place, and nowhere else
 unfoldable pub readingWithin : ℕ → ℕ → ℕ → List ℕ → Got
@@ -53,14 +50,14 @@ InferStays = (text : List ℕ) (r : Inferred) → length text ≤ formerLimit �
 
 -- "4,194,304 bytes in refusal 1, its place": 1 is told of exactly the longer texts, at 4,194,304, and both slices are all zero then
 pub record LongRefused (text ns ms : List ℕ) (a : ReadAnswer) (ns′ ms′ : List ℕ) : Type 0 where
-  pub exactly : (a .number ≡ 1) ↔ (newLimit < length text)
-  pub place : newLimit < length text → a .place ≡ newLimit
-  pub nodes-zero : newLimit < length text → ns′ ≡ zeros (length ns)
-  pub numbers-zero : newLimit < length text → ms′ ≡ zeros (length ms)
+  pub exactly : (a .number ≡ 1) ↔ (textLimit < length text)
+  pub place : textLimit < length text → a .place ≡ textLimit
+  pub nodes-zero : textLimit < length text → ns′ ≡ zeros (length ns)
+  pub numbers-zero : textLimit < length text → ms′ ≡ zeros (length ms)
 
 abbrev pub ReadLong : Type 0
 ReadLong = (text ns ms : List ℕ) (a : ReadAnswer) (ns′ ms′ : List ℕ) → Read text ns ms a ns′ ms′ → LongRefused text ns ms a ns′ ms′
 
 -- "infer_type's limit moves too"
 abbrev pub InferLong : Type 0
-InferLong = (text : List ℕ) (r : Inferred) → Inferring text r → newLimit < length text → r ≡ infer.refused 1 newLimit
+InferLong = (text : List ℕ) (r : Inferred) → Inferring text r → textLimit < length text → r ≡ infer.refused 1 textLimit

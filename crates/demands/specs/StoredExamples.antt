@@ -61,3 +61,9 @@ version-2 = (record { answer = refl; bytes = refl }, record { answer = refl; nod
 other-version : StoredRead version1 point-2 (7 ∷ 7 ∷ []) (7 ∷ []) (record { number = 26; place = 3; nodes = 0; numbers = 0 }) (0 ∷ 0 ∷ []) (0 ∷ []) × StoredRead version2 point (7 ∷ 7 ∷ []) (7 ∷ []) (record { number = 26; place = 3; nodes = 0; numbers = 0 }) (0 ∷ 0 ∷ []) (0 ∷ [])
 unfolding all point point-2
 other-version = (record { answer = refl; nodes = refl; numbers = refl }, record { answer = refl; nodes = refl; numbers = refl })
+
+-- a number's text of 65,536 bytes: 27 in both versions
+too-wide : StoredWrite version1 (replicate 65536 49 ++ (32 ∷ 50 ∷ [])) (1 ∷ 0 ∷ 1 ∷ []) (0 ∷ 65536 ∷ 65537 ∷ 1 ∷ []) 2 (notWritten 27) (0 ∷ 0 ∷ [])
+    × StoredWrite version2 (replicate 65536 49 ++ (32 ∷ 50 ∷ [])) (1 ∷ 0 ∷ 1 ∷ []) (0 ∷ 65536 ∷ 65537 ∷ 1 ∷ []) 2 (notWritten 27) (0 ∷ 0 ∷ [])
+unfolding all
+too-wide = (record { answer = refl; bytes = refl }, record { answer = refl; bytes = refl })

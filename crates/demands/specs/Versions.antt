@@ -16,7 +16,7 @@ use Rattle.demands.specs.Stored.{StoredWrite, storedIn, StoredRead, OneS
 
 -- ---- all that request 2026-01 asks of the entries of a version: "Demand 3's equality holds for stored bytes of one version" is `equal`, and `one-writing` is demand 3 of any
 -- form (`form/specs/Form`) at the form that the version is
-pub record KeepsTrees (v : Version) : Type 0 where
+pub record VersionKeeps (v : Version) : Type 0 where
   pub one-write : OneStoredWrite v
   pub one-read : OneStoredRead v
   pub one-writing-of-trees : StoredOneWritingOfTrees v

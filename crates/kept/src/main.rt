@@ -1,21 +1,3 @@
-fn is_second(bytes: &[u8]) -> bool {
-    if bytes.len() <= VERSION_AT {
-        return false;
-    }
-    bytes[VERSION_AT] == SECOND
-}
-
-// Bytes that don't say that they are of version 2 are read as those of version 1, which has the refusal for them.
-fn read(bytes: &[u8], nodes: &mut [u32], numbers: &mut [u32]) -> ReadAnswer {
-    if !is_second(bytes) {
-        return stored::read_1(bytes, nodes, numbers);
-    }
-    if INPUT_LIMIT < bytes.len() {
-        return store::refuse(nodes, numbers, TEXT_TOO_LONG, INPUT_LIMIT);
-    }
-    stored::read_2(bytes, nodes, numbers)
-}
-
 // Lists the tree whose stored bytes come on standard input, as `listing` lists one that is read from a text. Both versions are taken, by byte 3, and of both
 // no more than 1,048,576 bytes, which is all that version 1 may have. A refusal is told on standard error, as
 // `kept: refused 25 at byte 8: A field is cut, missing, extra or of wrong tag or length`, and nothing is listed.
@@ -49,6 +31,24 @@ const VERSION_AT: usize = 3;
 const SECOND: u8 = 2;
 
 const OUTPUT_BYTES: usize = 65_536;
+
+fn is_second(bytes: &[u8]) -> bool {
+    if bytes.len() <= VERSION_AT {
+        return false;
+    }
+    bytes[VERSION_AT] == SECOND
+}
+
+// Bytes that don't say that they are of version 2 are read as those of version 1, which has the refusal for them.
+fn read(bytes: &[u8], nodes: &mut [u32], numbers: &mut [u32]) -> ReadAnswer {
+    if !is_second(bytes) {
+        return stored::read_1(bytes, nodes, numbers);
+    }
+    if INPUT_LIMIT < bytes.len() {
+        return store::refuse(nodes, numbers, TEXT_TOO_LONG, INPUT_LIMIT);
+    }
+    stored::read_2(bytes, nodes, numbers)
+}
 
 // Lists the tree whose stored bytes are the first `count` of the input.
 fn list_kept(input: &[u8], count: usize, nodes: &mut [u32], numbers: &mut [u32], out: &mut [u8]) {

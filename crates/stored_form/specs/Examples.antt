@@ -1,12 +1,13 @@
 -- Worked examples of what reading comes to, by computation: stored bytes of each sort, and each refusal with each thing that may be at fault.
 use mathlib.Core.Path.{_≡_, refl}
+use mathlib.Core.Bool.{not}
 use mathlib.Core.List.{List, [], _∷_, _++_, map, flatMap}
 use Prim.Native.Nat.{ℕ}
 use lib.ListN.{take}
 use Rattle.kinds.specs.Kinds.{width}
 use Rattle.scan.specs.Front.{begins, afterOne, afterAll, isNil}
 use Rattle.words.specs.Words.{sameWord}
-use Rattle.lists.specs.Lists.{every}
+use Rattle.lists.specs.Lists.{every, passing, bytesThat}
 use Rattle.number.specs.Lexeme.{isNamed, isDigits, isExponent, isDecimal, isUnsigned, isLexeme}
 use Rattle.store.specs.Rows.{row, span, cell, firsts, rowsIn, spansIn, flatRows, flatSpans}
 use Rattle.store.specs.Answers.{Outcome, filled, refused}
@@ -81,6 +82,11 @@ each-its-own : (read (1 ∷ 255 ∷ 255 ∷ 2 ∷ []) ≡ refused 26 3) × (read
     × (read point-2 ≡ refused 26 3) × (read-2 point ≡ refused 26 3) × (read (1 ∷ 0 ∷ 5 ∷ 3 ∷ []) ≡ refused 26 3) × (read-2 (1 ∷ 0 ∷ 9 ∷ 3 ∷ []) ≡ refused 26 3) × (readingOf short 9 9 point-2 ≡ refused 1 22)
 unfolding all
 each-its-own = (refl, refl, refl, refl, refl, refl, refl, refl, refl)
+
+-- and no other of the 256
+known-bytes : (bytesThat (λ b. not (isOtherVersion version1 (1 ∷ 0 ∷ 0 ∷ b ∷ []))) ≡ 1 ∷ []) × (bytesThat (λ b. not (isOtherVersion version2 (1 ∷ 0 ∷ 0 ∷ b ∷ []))) ≡ 2 ∷ [])
+unfolding all passing
+known-bytes = (refl, refl)
 
 -- version 2 has none of version 1's lengths, nor the other way round: heads of 5 and of 9 bytes, nodes of 4 and of 6
 each-its-lengths : (read-2 (1 ∷ 0 ∷ 5 ∷ 2 ∷ 0 ∷ 1 ∷ 0 ∷ 2 ∷ (node ++ numbers)) ≡ refused 25 0) × (read (1 ∷ 0 ∷ 9 ∷ 1 ∷ 0 ∷ 0 ∷ 0 ∷ 1 ∷ 0 ∷ 0 ∷ 0 ∷ 2 ∷ (node ++ numbers)) ≡ refused 25 0) × (read-2 (take 12 point-2 ++ (node ++ numbers)) ≡ refused 25 12)
