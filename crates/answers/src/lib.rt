@@ -1,4 +1,6 @@
 // What reading a part comes to, and what every body is read with: a row, what follows a part, the closing token.
+#![tactic(auto)]
+
 ghost use Rattle.std.specs.Prelude.{◌≡◌};
 ghost use Rattle.tokenizer.specs.Tokens.{cursor_at, pass_comma};
 ghost use Rattle.store.specs.Rows.{open_row};

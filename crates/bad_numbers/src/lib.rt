@@ -1,5 +1,7 @@
 // Where a number goes wrong: the first byte at which no number's text can go on, or the end where more was needed. Only a refusal looks for
 // it, so what is already known to be no lexeme is gone through once more, part by part.
+#![tactic(auto)]
+
 ghost use Rattle.std.specs.Prelude.{◌≡◌, ◌+◌, ◌≤◌, length};
 ghost use Rattle.scan.specs.Front.{rest};
 ghost use Rattle.bad_numbers.specs.Openings.{opens_decimal, opens_word, longest, goes_wrong};

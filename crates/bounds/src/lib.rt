@@ -1,4 +1,6 @@
 // Boxes, and rows of them in a lent table, which is filled while the nodes of a store are met.
+#![tactic(auto)]
+
 ghost use Rattle.std.specs.Prelude.{◌≡◌, ◌<◌};
 ghost use Rattle.bounds.specs.Bounds.{lower, higher, box, five, five_of, done_row, put_five, box_cell, opened, widened, widened_above, settled, closed, cleared, Refuses};
 

@@ -5,6 +5,8 @@
 //   0 7 1.0000000 1.0000000 -2.5000000 -2.5000000
 //   1 1 1.0000000 1.0000000 -2.5000000 -2.5000000
 //   2 1 -
+#![tactic(auto)]
+
 ghost use Rattle.std.specs.Prelude.{◌≡◌};
 ghost use Rattle.printing.specs.Printing.{buffer, put_all_in};
 ghost use Rattle.box_lines.specs.Lines.{heading, pair, box_text, row_line, box_lines};

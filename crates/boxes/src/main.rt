@@ -2,6 +2,8 @@
 // high X, low Y and high Y as decimals with seven places, lows rounded down and highs up; `-` where a node has no coordinates; or the refusal's number and place.
 // `POINT(1 -2.5)` is `0 1 1.0000000 1.0000000 -2.5000000 -2.5000000`, `POINT EMPTY` is `0 1 -`, and `POINT(1 +inf)` is `refused 30 9`. The crate `box_lines` has
 // the lines.
+#![tactic(auto)]
+
 use bounds::BOX_WIDTH;
 use box_lines::put_boxes;
 use console::{

@@ -1,4 +1,6 @@
 // The answers of the entries for C, each laid out in the four places that a caller lends for it; that of a move has five.
+#![tactic(auto)]
+
 ghost use Rattle.std.specs.Prelude.{◌≡◌};
 ghost use Rattle.c_answers.specs.Answers.{read_places, write_places, strict_places, infer_places, box_places, places_of, token_places, move_places};
 

@@ -1,6 +1,8 @@
 // Writes the canonical text of the geometry that the text on standard input begins with, and a newline; or the
 // refusal's number and place. `multipoint z(1 2 +inf, 3 4 ++5)` is written as `MULTIPOINT Z((1 2 +inf),(3 4 ++5))`,
 // and `POINT(x 2)` is `refused 13 8`.
+#![tactic(auto)]
+
 use console::{
     INPUT_BYTES, INPUT_LIMIT, NODE_PLACES, NODE_ROWS, NUMBER_PLACES, NUMBER_ROWS, is_over,
     put_refusal, put_too_long, read_input,

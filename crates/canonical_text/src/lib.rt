@@ -1,1 +1,2 @@
 // The canonical text of a tree. There is no code.
+#![tactic(auto)]

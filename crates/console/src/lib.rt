@@ -1,5 +1,7 @@
 // What the programs have in common: their input limit, their rooms, standard input, the line of a refusal, and the
 // numbers of records.
+#![tactic(auto)]
+
 ghost use Rattle.std.specs.Prelude.{◌≡◌, ◌+◌, ◌*◌, ◌≤◌, length};
 ghost use Rattle.io.specs.Counts.{IsPrefixLen};
 ghost use Rattle.printing.specs.Printing.{buffer, put_all_in};

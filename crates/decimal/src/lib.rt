@@ -1,5 +1,7 @@
 // The exact value of a number's text in units of a ten-millionth, rounded down and up. A plain text is passed over once, as nearly all are; any other is given up
 // where it isn't plain and passed over once more. Of digits that no u64 holds any more it is only kept how many they are and whether one of them isn't 0.
+#![tactic(auto)]
+
 ghost use Rattle.std.specs.Prelude.{◌≡◌, true, false, not, ◌||◌, ◌+◌, ◌-◌, ◌*◌, ◌/◌, ◌%◌, ◌^◌, ◌≤◌, ◌<◌, min, eqb, length, take, drop};
 ghost use Rattle.lists.specs.Lists.{every};
 ghost use Rattle.scan.specs.Bytes.{is_digit};

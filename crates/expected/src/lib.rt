@@ -1,4 +1,6 @@
 // What was expected where a number goes wrong: for the words that a refusal is told with.
+#![tactic(auto)]
+
 mod expectations;
 
 ghost use Rattle.std.specs.Prelude.{◌≡◌};

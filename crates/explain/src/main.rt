@@ -12,6 +12,8 @@
 //            ^
 //
 // and of a text that is read the counts of its nodes and numbers are told, as in `accepted 1 2`.
+#![tactic(auto)]
+
 mod characters;
 
 use characters::put_part;

@@ -1,5 +1,7 @@
 // Fields in bytes: a one-byte tag, a two-byte length, the content. Lengths and counts are big-endian; a count has as many bytes as its reader
 // or writer says.
+#![tactic(auto)]
+
 ghost use Rattle.std.specs.Prelude.{◌≡◌, ◌+◌, ◌*◌, ◌/◌, ◌%◌, ◌^◌, ◌≤◌, ◌<◌, length, get_or, set};
 ghost use Rattle.pen.specs.Pen.{Puts};
 ghost use Rattle.fields.specs.Counts.{byte, count_in, count_bytes};

@@ -1,4 +1,6 @@
 // What stands after a name, and a name with it: `infer_geom_dimension` of the Rust, and the start of `from_tokens_with_parens`.
+#![tactic(auto)]
+
 ghost use Rattle.std.specs.Prelude.{◌≡◌, cond, eqb, ◌+◌, ◌≤◌, length};
 ghost use Rattle.scan.specs.Bytes.{is_ascii};
 ghost use Rattle.lists.specs.Lists.{every};

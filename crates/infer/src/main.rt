@@ -1,5 +1,7 @@
 // Prints the kind and the dimension that the front of the text on standard input names, as `POINT XYZ`,
 // or the refusal's number and place, as `refused 19 0`.
+#![tactic(auto)]
+
 use console::{INPUT_BYTES, is_over, put_refusal, put_too_long, read_input};
 use infer_type::Inferred;
 use kinds::KIND_POINT;

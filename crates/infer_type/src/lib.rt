@@ -1,4 +1,6 @@
 // The kind and the dimension that the front of a text names, without reading the geometry.
+#![tactic(auto)]
+
 ghost use Rattle.std.specs.Prelude.{◌≡◌};
 ghost use Rattle.scan.specs.Runs.{first_not};
 ghost use Rattle.infer_type.specs.Part.{is_trimmed, is_looked, trimmed_at};

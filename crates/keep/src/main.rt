@@ -1,5 +1,7 @@
 // Keeps the geometry that the text on standard input begins with: writes its tree to standard output as stored bytes of version 1 (the crate `stored`), which every tree of a text that a program takes fits. A refusal is
 // told on standard error, as `keep: refused 13 at byte 8: Missing closing parenthesis for type`, and nothing is written.
+#![tactic(auto)]
+
 use console::{INPUT_BYTES, INPUT_LIMIT, is_over, read_input};
 use expected::{NO_EXPECTATION, expected_of};
 use libc::STDOUT_FILENO;

@@ -1,6 +1,8 @@
 // Lists the tree whose stored bytes come on standard input, as `listing` lists one that is read from a text. Both versions are taken, by byte 3, and of both
 // no more than 1,048,576 bytes, which is all that version 1 may have. A refusal is told on standard error, as
 // `kept: refused 25 at byte 8: A field is cut, missing, extra or of wrong tag or length`, and nothing is listed.
+#![tactic(auto)]
+
 use expected::NO_EXPECTATION;
 use libc::STDIN_FILENO;
 use messages::complain;

@@ -1,4 +1,6 @@
 // The numbers of the kinds and of the dimensions, and how many numbers a coordinate has.
+#![tactic(auto)]
+
 ghost use Rattle.std.specs.Prelude.{◌≡◌};
 ghost use Rattle.kinds.specs.Kinds.{has_z, has_m, width};
 

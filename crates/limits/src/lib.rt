@@ -1,4 +1,6 @@
 // The limits that the entries set to a text: its length and its depth.
+#![tactic(auto)]
+
 ghost use Rattle.std.specs.Prelude.{◌≡◌, length};
 ghost use Rattle.limits.specs.Limits.{text_limit, over_limit, depth_limit};
 

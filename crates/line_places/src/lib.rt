@@ -1,4 +1,6 @@
 // Places in a text: of its lines, and of its characters.
+#![tactic(auto)]
+
 ghost use Rattle.std.specs.Prelude.{◌≡◌, ◌≤◌, length};
 ghost use Rattle.scan.specs.Runs.{first_not};
 ghost use Rattle.line_places.specs.Lines.{is_break, is_in_line, goes_on, line_start, break_count, line_from, trimmed, shown_place};

@@ -1,5 +1,7 @@
 // Lists the geometry that the text on standard input begins with: its rows, a line each, or the refusal's number
 // and place. The crate `row_lines` has the lines.
+#![tactic(auto)]
+
 use console::{INPUT_BYTES, NODE_PLACES, NUMBER_PLACES, read_input};
 use printing::flush;
 use row_lines::list;

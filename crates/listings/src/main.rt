@@ -1,6 +1,8 @@
 // Lists many texts, for the gate: what `listing` prints of each, by the same code and with the same rooms, and an
 // empty line behind it. Standard input has records: a u32, little-endian, with the count of the bytes that follow,
 // and those bytes, which are a text. `tools/listings` makes the input and what must be printed.
+#![tactic(auto)]
+
 use console::{NODE_PLACES, NUMBER_PLACES, U32_BYTES, u32_at};
 use libc::STDIN_FILENO;
 use printing::{flush, least, put};

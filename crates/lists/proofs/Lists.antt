@@ -26,7 +26,7 @@ module _ {A : Type 0} (p : A → A → Bool) (a : A) (l : List A) (h : pairwise 
   pairwise_tail = ((and-eq-true_iff (every (p a) l) (pairwise p l)).0 h).1
 
 pub every_mem : {A : Type 0} (p : A → Bool) (l : List A) (a : A) → every p l ≡ true → Memᴰ a l → p a ≡ true
-every_mem p [] a h m = absurd (Memᴰ.not_nil m)
+every_mem p [] a h m = absurd (Memᴰ.not-nil m)
 every_mem p (b ∷ l) a h m =
     ⊎_elim (λ e. ap p e ∙ every_head p b l h) (λ n. every_mem p l a (every_tail p b l h) n) (Memᴰ.cases_cons m)
 

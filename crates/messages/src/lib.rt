@@ -1,4 +1,6 @@
 // The messages of the refusals, and what was expected where a number goes wrong.
+#![tactic(auto)]
+
 mod expected_lines;
 mod message_lines;
 

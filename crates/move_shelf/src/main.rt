@@ -1,6 +1,8 @@
 // Moves the stored bytes on standard input to another version, and writes them to standard output: `move_shelf up` from version 1 to version 2, `move_shelf back` from version 2
 // to version 1. A refusal is told on standard error, as `move_shelf: refused 26 at byte 3: The stored bytes are of another version`, and nothing is written; so is a word
 // that is neither.
+#![tactic(auto)]
+
 use expected::NO_EXPECTATION;
 use libc::{STDERR_FILENO, STDIN_FILENO, STDOUT_FILENO};
 use messages::complain;

@@ -1,4 +1,6 @@
 // The names of the geometries, their endings, and the words that they make.
+#![tactic(auto)]
+
 ghost use Rattle.std.specs.Prelude.{◌≡◌, true, ◌+◌, ◌≤◌, length as size, take, get_or};
 ghost use Rattle.lists.specs.Lists.{every};
 ghost use Rattle.words.specs.Words.{starts_word};

@@ -1,4 +1,6 @@
 // A box beside each node: the lowest and highest X and Y of its own and its descendants' coordinates, in units of a ten-millionth.
+#![tactic(auto)]
+
 ghost use Rattle.std.specs.Prelude.{◌≡◌, ◌+◌, ◌≤◌, ◌<◌, false, cond};
 ghost use Rattle.store.specs.Rows.{node_room, number_room};
 ghost use Rattle.walk.specs.Walk.{CoordinatesIn, NumbersIn};

@@ -1,4 +1,6 @@
 // Nodes in their places: what a node row is below its parent, and whether it may stand there.
+#![tactic(auto)]
+
 ghost use Rattle.std.specs.Prelude.{◌≡◌};
 ghost use Rattle.nodes.specs.Nodes.{is_leaf, numbers_of, is_free, child_kind, is_geometry, is_child, is_allowed, may_open};
 

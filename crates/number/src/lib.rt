@@ -1,4 +1,6 @@
 // Number texts: what the Rust leaves to `f64`'s `FromStr`, recognised in one pass.
+#![tactic(auto)]
+
 ghost use Rattle.std.specs.Prelude.{◌≡◌, ◌+◌, ◌≤◌, ◌<◌, length, take, drop};
 ghost use Rattle.lists.specs.Lists.{every};
 ghost use Rattle.scan.specs.Bytes.{is_digit};

@@ -1,4 +1,6 @@
 // Bytes put one after the other into a lent slice, while there is room.
+#![tactic(auto)]
+
 ghost use Rattle.std.specs.Prelude.{◌≡◌, [], ◌∷◌, length};
 ghost use Rattle.store.specs.Rows.{cleared};
 ghost use Rattle.store.specs.Answers.{refusal, Writes};

@@ -1,4 +1,6 @@
 // Canonical text that is put in one go: a number, the comma before a child, and a node's name with its dimension.
+#![tactic(auto)]
+
 ghost use Rattle.std.specs.Prelude.{◌≡◌, ◌≤◌, length as size, take};
 ghost use Rattle.scan.specs.Front.{begins};
 ghost use Rattle.names.specs.Letters.{is_letter};

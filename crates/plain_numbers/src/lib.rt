@@ -1,5 +1,7 @@
 // Plain numbers, as most are: digits, perhaps behind a minus and with a point among them, and a stop right behind them.
 // They are read here without a token for each; whatever else stands there is left to the tokens.
+#![tactic(auto)]
+
 ghost use Rattle.std.specs.Prelude.{◌≡◌};
 ghost use Rattle.scan.specs.Runs.{after_one_at};
 ghost use Rattle.plain_numbers.specs.Plain.{is_minus, fraction_end, decimal_end, plain_at};

@@ -1,6 +1,8 @@
 // Standard output, written through a buffer that the caller lends with the count of its full bytes, `at`; each
 // `put` answers the count after it. The contracts say what stands in the buffer: what reaches standard output is
 // outside of the language.
+#![tactic(auto)]
+
 ghost use Rattle.std.specs.Prelude.{◌≡◌, [], ◌∷◌, ◌≤◌, min};
 ghost use Rattle.printing.specs.Printing.{buffer, put_in, put_all_in, decimal, spaced};
 

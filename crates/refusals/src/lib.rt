@@ -1,5 +1,7 @@
 // The numbers of the refusals, made by tools/refusals from crates/refusals/table.txt. `specs/Refusals` has
 // the words of document 01 for each.
+#![tactic(auto)]
+
 pub const TEXT_TOO_LONG: u32 = 1;
 
 pub const ILL_FORMED_UTF8: u32 = 2;

@@ -9,6 +9,8 @@
 //
 // A record that is cut, too large or of another letter is answered `bad record`. What a letter lends is an array of its own,
 // made anew for each record: passed down from `main`, five buffers would make each function on the way slow to prove.
+#![tactic(auto)]
+
 mod checking;
 mod found;
 mod inferred;

@@ -5,6 +5,8 @@
 //
 // A record that is cut, too large or of another letter is answered `bad record`. What a letter lends is an array of its own, made anew for each record, as
 // in `replay`.
+#![tactic(auto)]
+
 mod boxes;
 
 use printing::flush;

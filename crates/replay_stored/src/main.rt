@@ -7,6 +7,8 @@
 //
 // A record that is cut, too large, of another letter or of a version that there is not is answered `bad record`. What a letter lends is an array of
 // its own, made anew for each record, as in `replay`.
+#![tactic(auto)]
+
 mod moving;
 mod reading;
 mod writing;

@@ -1,4 +1,6 @@
 // How much room a caller lends, so that the reader never wants for a row.
+#![tactic(auto)]
+
 ghost use Rattle.std.specs.Prelude.{◌≡◌};
 ghost use Rattle.rooms.specs.Rooms.{enough_rows};
 

@@ -1,6 +1,6 @@
 -- A size in units with its sign, rounded down and up (request 2026-03: "lows rounded down, highs rounded up [..] Negative numbers round by the same rule,
 -- toward minus infinity for lows.").
-use Rattle.std.specs.Prelude.{Bool, cond, ℕ, ◌+◌, ◌^◌, leb, ltb, ℤ, pos, neg_ℤ}
+use Rattle.std.specs.Prelude.{Bool, cond, ℕ, ◌+◌, leb, ltb, ℤ, pos, neg_ℤ}
 use Rattle.rounding.specs.declared.Reckoned.{Reckoned}
 use Rattle.rounding.specs.declared.Reckoned.TheVariants.{Sides, Beyond}
 

@@ -1,4 +1,6 @@
 // Sizes in units with their sign, rounded down and up.
+#![tactic(auto)]
+
 ghost use Rattle.std.specs.Prelude.{◌≡◌, ◌+◌, ◌≤◌, pos, neg_ℤ};
 ghost use Rattle.rounding.specs.declared.Reckoned.TheVariants.{Sides};
 ghost use Rattle.rounding.specs.Rounding.{size_limit, outward, low_of, high_of, is_over, rounded};

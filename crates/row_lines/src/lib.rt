@@ -8,6 +8,8 @@
 //   number 3
 //
 // and `POINT(x 2)` as `refused 13 8`.
+#![tactic(auto)]
+
 ghost use Rattle.std.specs.Prelude.{◌≡◌};
 ghost use Rattle.printing.specs.Printing.{buffer, put_all_in};
 ghost use Rattle.row_lines.specs.Lines.{node_numbers, node_line, number_line, lines_of, answer_line, listing_lines, Listed};

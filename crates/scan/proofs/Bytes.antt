@@ -1,13 +1,13 @@
 -- The classes of bytes, held against each other.
 -- Assumes nothing.
 use mathlib.Core.Path.{◌≡◌, refl, sym, ap, ◌∙◌}
-use mathlib.Core.Bool.{Bool, true, false, not, ◌||◌, or-false, false≢true, and-eq-true_iff}
+use mathlib.Core.Bool.{Bool, true, false, ◌||◌, or-false, false≢true, and-eq-true_iff}
 use mathlib.Core.Logic.{◌⊎◌, ⊎_elim}
 use Prim.Native.Nat.{ℕ, ◌+◌, ◌≤◌, ◌<◌}
 use native.Mathlib.Omega.{arith}
 use lib.Dec.{eqb, leb}
 use borrow.Author.Tests.{leb-true, eqb-true, eqb-false, ne_eqb}
-use Rattle.scan.specs.Bytes.{is_blank, is_stop, is_inner, is_digit, is_sign, is_plus, is_point, is_numberlike, plus, minus, point}
+use Rattle.scan.specs.Bytes.{is_blank, is_stop, is_inner, is_digit, is_sign, is_plus, is_point, plus, minus, point}
 
 pub or_elim : {C : Type 0} (a b : Bool) → (a ≡ true → C) → (b ≡ true → C) → (a || b) ≡ true → C
 or_elim true b f g e = f refl

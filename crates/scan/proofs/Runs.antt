@@ -14,7 +14,7 @@ use lib.Seq.{drop-cons, drop-drop, get_or-drop}
 use borrow.Author.Tests.{le-ltb, lt-ltb}
 use Rattle.scan.specs.Runs.{run, first_not, after_one_at, Many, none, more}
 use Rattle.scan.specs.Front.{rest, part, begins, after_one, after_all}
-use Rattle.scan.proofs.Front.{rest_past, all_on, all_stop, all_past, begins_at, begins_past, one_yes, one_no, one_past, part_first, part_none, one_none, one_first, one_other}
+use Rattle.scan.proofs.Front.{begins_at, begins_past, one_yes, one_no, one_past, part_first, part_none, one_none, one_first, one_other}
 
 module _ (p : ℕ → Bool) (text : List ℕ) where
   run_more : (i : ℕ) → i < length text → p (get_or text i 0) ≡ true → run p (drop i text) ≡ suc (run p (drop (i + 1) text))

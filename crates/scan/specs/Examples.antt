@@ -1,5 +1,5 @@
 -- Worked examples of this crate's definitions, by computation.
-use Rattle.std.specs.Prelude.{◌≡◌, refl, Bool, true, false, List, [], ◌∷◌, ℕ, length}
+use Rattle.std.specs.Prelude.{◌≡◌, refl, true, false, List, [], ◌∷◌, ℕ, length}
 use Rattle.lists.specs.Lists.{passing, bytes_that}
 use Rattle.scan.specs.Bytes.{is_blank, is_mark, is_stop, is_inner, is_digit, is_sign, is_plus, is_point, is_numberlike, is_ascii, tab, nul, paren_open}
 use Rattle.scan.specs.Runs.{run, first_not, after_one_at}

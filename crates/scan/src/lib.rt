@@ -1,4 +1,6 @@
 // The byte classes of WKT's tokens, and scans over runs of them.
+#![tactic(auto)]
+
 ghost use Rattle.std.specs.Prelude.{◌≡◌};
 ghost use Rattle.scan.specs.Bytes.{is_blank, is_stop, is_inner, is_digit, is_sign, is_plus, is_point, is_numberlike};
 ghost use Rattle.scan.specs.Runs.{first_not, after_one_at};

@@ -1,4 +1,6 @@
 // Whether a store is well formed.
+#![tactic(auto)]
+
 ghost use Rattle.std.specs.Prelude.{◌≡◌};
 ghost use Rattle.lists.specs.Options.{is_some};
 ghost use Rattle.shape.specs.Numbers.{text_at, is_number_at, are_numbers};

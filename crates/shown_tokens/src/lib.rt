@@ -1,5 +1,7 @@
 // What a demand for a token found, as programs print it: `none@P`, `bad@P`, `(@P`, `number@P:S+L`, where P is the place, S the
 // start of a number's text or of a word, and L its length.
+#![tactic(auto)]
+
 ghost use Rattle.std.specs.Prelude.{◌≡◌};
 ghost use Rattle.printing.specs.Printing.{buffer, put_all_in};
 ghost use Rattle.shown_tokens.specs.Shown.{placed, spanned, shown_token, shown_found};

@@ -1,4 +1,6 @@
 // A token as the grammar asks of it: by its sort, a number.
+#![tactic(auto)]
+
 ghost use Rattle.std.specs.Prelude.{◌≡◌, cond, eqb};
 ghost use Rattle.token.specs.Tokens.{bad_at};
 ghost use Rattle.tokenizer.specs.Tokens.{cursor_at, take_at};

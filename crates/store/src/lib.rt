@@ -1,4 +1,6 @@
 // Rows in lent slices: nodes and numbers, as document 01's "The store" lays them out.
+#![tactic(auto)]
+
 ghost use Rattle.std.specs.Prelude.{◌≡◌, ◌≤◌, ◌<◌, length};
 ghost use Rattle.store.specs.Rows.{node_width, number_width, node_room, number_room, places_of, open_row, close_row, put_row, put_span, cleared, kind_at, dimension_at, parts_at, node_column, span_start_at, span_length_at, cell};
 ghost use Rattle.store.specs.Answers.{Accepts, refused, Leaves};

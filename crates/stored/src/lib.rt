@@ -1,5 +1,7 @@
 // A tree kept as bytes (document 02, 2026-01, 2026-05 and 2026-06): in fields a head with version and counts, then each node, then each number's text. Here are the
 // entries of each version and the moves between them, and in proofs the laws of the form over any version.
+#![tactic(auto)]
+
 ghost use Rattle.std.specs.Prelude.{length};
 ghost use Rattle.store.specs.Rows.{node_room, number_room};
 ghost use Rattle.store.specs.Answers.{Leaves, Writes};

@@ -1,5 +1,7 @@
 // The stored form of a tree (document 02, 2026-01 and 2026-05), nearly without code: what a version of the form has of its own, and what a head tells. Its fields
 // and what reading any bytes comes to are in specs.
+#![tactic(auto)]
+
 ghost use Rattle.std.specs.Prelude.{◌≡◌};
 ghost use Rattle.stored_form.specs.Form.{version_of};
 

@@ -1,5 +1,7 @@
 // The number fields of a stored tree: whether each holds a number's text, and nothing follows the last. A text of at most sixteen bytes is told by one
 // look at sixteen bytes, whatever stands behind it, so that the compiler can take all of them at once.
+#![tactic(auto)]
+
 ghost use Rattle.std.specs.Prelude.{◌≡◌, true, cond, ltb, ◌+◌, ◌≤◌, length, take, drop};
 ghost use Rattle.number.specs.Lexeme.{is_lexeme, is_plain};
 ghost use Rattle.stored_numbers.specs.Weights.{weight, weigh, sign_width, twos_then_none};

@@ -1,5 +1,7 @@
 // Reading a stored tree: the head, then every field is looked at before a row is asked for, then the rows are put. The reader is one for all versions of
 // the form.
+#![tactic(auto)]
+
 ghost use Rattle.std.specs.Prelude.{◌≡◌, true, ◌≤◌, ◌<◌, ◌^◌, length};
 ghost use Rattle.store.specs.Rows.{node_room, number_room, flat_rows, flat_spans};
 ghost use Rattle.store.specs.Answers.{Leaves};

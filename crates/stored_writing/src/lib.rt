@@ -1,5 +1,7 @@
 // Writing a store as stored bytes: it is checked, then measured, then its fields are put. And moving stored bytes to another version: they are read into a
 // store, of which head and nodes are put anew, and their number fields, which are the same in every version, are copied. Both are one for all versions of the form.
+#![tactic(auto)]
+
 ghost use Rattle.std.specs.Prelude.{◌≡◌, true, ◌≤◌, ◌<◌, ◌^◌, length};
 ghost use mathlib.Core.List.{◌++◌, flat_map};
 ghost use Rattle.lists.specs.Lists.{All};

@@ -1,4 +1,6 @@
 // The strict check: rules A to D over the nodes of a well-formed store.
+#![tactic(auto)]
+
 ghost use Rattle.std.specs.Prelude.{◌≡◌, [], ◌∷◌};
 ghost use Rattle.refusals.specs.Refusals.{ill_formed_store};
 ghost use Rattle.store.specs.Rows.{number_room};

@@ -1,6 +1,8 @@
 // Checks the geometry that the text on standard input begins with by the strict rules: `strict ok`, the letter of
 // the first rule that fails and the row of its node, or the refusal's number and place.
 // `POLYGON((0 0,1 0,1 1,0 1))` is `strict C 1`, since its ring isn't closed.
+#![tactic(auto)]
+
 use console::{
     INPUT_BYTES, NODE_PLACES, NUMBER_PLACES, is_over, put_refusal, put_too_long, read_input,
 };

@@ -1,4 +1,6 @@
 // The canonical text of a store.
+#![tactic(auto)]
+
 ghost use Rattle.std.specs.Prelude.{◌≡◌, ◌∷◌, length};
 ghost use Rattle.scan.specs.Bytes.{paren_open};
 ghost use Rattle.pen.specs.Pen.{Emits};

@@ -1,4 +1,6 @@
 // The token that stands at a place of a text: what `tokenizer.rs` of the Rust reads with one call of `next`.
+#![tactic(auto)]
+
 ghost use Rattle.std.specs.Prelude.{◌≡◌, ◌<◌, length};
 ghost use Rattle.token.specs.Tokens.{number_at, word_at, read_at, bad_at};
 

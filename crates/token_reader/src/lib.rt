@@ -1,6 +1,8 @@
 // The token reader: a lent text and the place in it together, `Tokens` of the Rust's tokenizer.rs.
 // A function over this struct is proved by a walk of its code, by hand. So each is thin: it takes the struct apart and leaves the work to
 // the cursor's own step.
+#![tactic(auto)]
+
 ghost use Rattle.std.specs.Prelude.{◌≡◌};
 ghost use Rattle.tokenizer.specs.Tokens.{cursor_at, take_at, look_at};
 ghost use Rattle.token_reader.specs.Reader.{reader, next_of, after_next, peek_of, after_peek, nth_from};

@@ -1,4 +1,6 @@
 // The tokens of a text, one at a time: `Peekable` of the Rust as a cursor that is handed on by value.
+#![tactic(auto)]
+
 ghost use Rattle.std.specs.Prelude.{◌≡◌};
 ghost use Rattle.tokenizer.specs.Tokens.{cursor_at, take_at, hold, look_at, is_nothing, is_comma, is_open, is_close_token, place_in, stands_at, pass_comma, pass_open, closes_at};
 

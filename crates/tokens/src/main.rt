@@ -4,6 +4,8 @@
 // way to come by them, a line each. By the contract of `step_by` the lines of a record have the same tokens.
 //
 // A record that is cut or of another letter is answered `bad record`.
+#![tactic(auto)]
+
 mod ways;
 
 ghost use Rattle.std.specs.Prelude.{◌≤◌, ◌<◌, length};

@@ -1,4 +1,6 @@
 // The walk over node rows that every later entry takes: over those of a slice, or over rows that are given one by one.
+#![tactic(auto)]
+
 ghost use Rattle.std.specs.Prelude.{◌≡◌, true, leb, ◌+◌, ◌-◌, ◌*◌, ◌<◌};
 ghost use Rattle.store.specs.Rows.{row, row_at};
 ghost use Rattle.nodes.specs.Nodes.{visit_of, may_open, frame_of};

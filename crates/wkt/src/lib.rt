@@ -1,4 +1,6 @@
 // Reading well-known text into rows of two lent slices: `lib.rs` of the Rust, whose other files are the modules below.
+#![tactic(auto)]
+
 mod coord;
 mod geometrycollection;
 mod linestring;

@@ -1,5 +1,7 @@
 // The entries for C, and for every language that calls as C does. A slice goes as a pointer and a length, and an
 // answer goes into four places that the caller lends, that of a move into five, so that no struct is passed.
+#![tactic(auto)]
+
 ghost use Rattle.std.specs.Prelude.{◌≡◌, length};
 ghost use Rattle.store.specs.Rows.{node_room, number_room};
 ghost use Rattle.grammar.specs.Reading.{reading};

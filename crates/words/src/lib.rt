@@ -1,4 +1,6 @@
 // Words, compared without regard to the case of ASCII letters.
+#![tactic(auto)]
+
 ghost use Rattle.std.specs.Prelude.{◌≡◌};
 ghost use Rattle.words.specs.Words.{upper, same_byte, same_word, starts_word};
 

@@ -1,0 +1,11 @@
+-- `store::node_places` meets its contract: the places of as many rows, or all of them.
+use native.Mathlib.Omega.{arith}
+use borrow.Author.Rules.{rules}
+use Rattle.store.proofs.Cells.{places_some, places_all}
+use Rattle.store.proofs.node_places.Goals as goal
+
+pub returns-then-rows-node_room : goal.returns-then-rows-node_room
+returns-then-rows-node_room c = places_some _ _ _ (omega arith)
+
+pub returns-else-rows-node_room : goal.returns-else-rows-node_room
+returns-else-rows-node_room c = places_all _ _ _ (omega arith)

@@ -1,0 +1,19 @@
+-- What `utf8::all_ascii` keeps true in its loops, and what falls.
+use mathlib.Core.Path.{◌≡◌, refl}
+use mathlib.Core.Logic.{⊎_elim}
+use Prim.Native.Nat.{◌+◌, ◌-◌, ◌≤◌, ◌<◌}
+use native.Mathlib.Omega.{arith}
+use lib.ListN.{length, get_or}
+use borrow.Author.Rules.{rules}
+use borrow.Author.Tests.{ltb-true}
+use Rattle.scan.specs.Front.{rest}
+use Rattle.utf8.specs.Utf8.{first_ill}
+use Rattle.utf8.proofs.Walk.{on_most}
+use Rattle.utf8.proofs.all_ascii.Given as goal
+
+abbrev pub invariant-loop-i : goal.invariant-loop-i
+invariant-loop-i l =
+    (l.i ≤ l.end) × (l.most < 0x80 → l.i + first_ill (rest l.text l.i) ≡ l.from + first_ill (rest l.text l.from))
+
+abbrev pub decreases-loop-i : goal.decreases-loop-i
+decreases-loop-i l = l.end - l.i
