@@ -27,7 +27,7 @@ use Rattle.store.proofs.Rows.{rows_length}
 use Rattle.infer_type.specs.declared.Inferred.{Inferred}
 use Rattle.infer_type.specs.Infer as infer
 use Rattle.infer_type.specs.Answers.{Answer, long, ill, wide, neither, no_space, no_name, named_paren, named_empty}
-use Rattle.infer_type.proofs.Answers.{infer_type_one, infer_type_answers}
+use Rattle.infer_type.proofs.Answers.{inferred_is_one, infer_type_answers}
 use Rattle.lists.specs.Lists.{All}
 use Rattle.grammar.specs.Answers.{Passes, is_refusal, is_halt, Refused, Halted}
 use Rattle.grammar.specs.Asks.{Ran, ran, run, answer_in}
@@ -312,7 +312,7 @@ strict_answers text nodes numbers r e = rw e (go (walk_of text nodes numbers) re
 
 -- ---- infer_type
 pub one_inferred : OneInferred
-one_inferred text r r' x y = infer_type_one text r r' x y
+one_inferred text r r' x y = inferred_is_one text r r' x y
 
 pub type_answers : TypeAnswers
 type_answers text r e = rw e (infer_type_answers text)

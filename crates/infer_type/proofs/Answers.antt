@@ -181,5 +181,5 @@ module _ (text : List ℕ) where
   infer_type_refuses = refuses infer_type_answers
 
   -- the contract's equation leaves no choice
-  pub infer_type_one : (a b : Inferred) → a ≡ infer_type text → b ≡ infer_type text → a ≡ b
-  infer_type_one a b h k = h ∙ sym k
+  pub inferred_is_one : (a b : Inferred) → a ≡ infer_type text → b ≡ infer_type text → a ≡ b
+  inferred_is_one a b h k = h ∙ sym k

@@ -7,5 +7,5 @@ use Rattle.lists.specs.One.{One}
 use Rattle.lists.proofs.One.{one}
 use Rattle.infer_type.specs.Infer.{infer_type}
 
-pub infer_call_one : (text : List ℕ) → One (λ r. r ≡ infer_type text)
-infer_call_one text = one
+pub infer_type_one : (text : List ℕ) → One (λ r. r ≡ infer_type text)
+infer_type_one text = one
