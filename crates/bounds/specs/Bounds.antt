@@ -1,6 +1,5 @@
 -- Boxes, and rows of them in a lent table (request 2026-03: "Five i64 a row: 1, low X, high X, low Y, high Y; all 0 without coordinates.").
 use Rattle.std.specs.Prelude.{◌≡◌, Bool, cond, List, [], ◌∷◌, ◌++◌, ℕ, ◌+◌, ◌-◌, ◌*◌, ◌/◌, ltb, ℤ, pos, neg_ℤ, nat_abs, length, get_or, take, replicate}
-use Rattle.std.proofs.Common.{sym, ◌∙◌}
 use Rattle.std.specs.Int.Signed.{lt_z, non_neg}
 use Rattle.std.proofs.lemmas.List.Edits.{sets}
 use Rattle.bounds.specs.declared.BoxAnswer.{BoxAnswer}

@@ -1,5 +1,5 @@
 -- Worked examples of this crate's definitions, by computation: boxes, rows in a table, and each step by which it is filled.
-use Rattle.std.specs.Prelude.{◌≡◌, refl, true, false, List, [], ◌∷◌, ◌++◌, ℕ, ◌^◌, ℤ, pos, negsuc, neg_ℤ}
+use Rattle.std.specs.Prelude.{◌≡◌, refl, true, false, List, [], ◌∷◌, ◌++◌, ℕ, ◌^◌, ℤ, pos, neg_ℤ}
 use Rattle.bounds.specs.Bounds.{lower, higher, Bounds, box, merge, edge, nothing, is_nothing, box_width, box_room, box_row, five, five_of, no_box, done_row, put_five, box_cell, first_at, bounds_at, opened, widened, widened_above, closed, zeros, padded, cleared, box_answer}
 
 neg : ℕ → ℤ
