@@ -2,12 +2,12 @@
 -- Assumes nothing.
 use mathlib.Core.Path.{◌≡◌, refl, sym, ap, ◌∙◌, subst}
 use mathlib.Core.Logic.{◌⊎◌, inl, inr}
-use mathlib.Core.Bool.{Bool, true, false, cond, not, ◌||◌, ◌&&◌, false≢true, and-eq-true_iff}
+use mathlib.Core.Bool.{Bool, true, false, cond, ◌||◌, false≢true, and-eq-true_iff}
 use mathlib.Core.List.{List, [], ◌∷◌, ◌++◌, append_assoc, append-nil}
-use Prim.Native.Nat.{ℕ, suc, ◌≤◌, ◌<◌}
+use Prim.Native.Nat.{ℕ}
 use native.Mathlib.Omega.{arith}
-use lib.Dec.{eqb, leb}
-use borrow.Author.Tests.{leb-true, eqb-true, ne_eqb, eqb-false}
+use lib.Dec.{eqb}
+use borrow.Author.Tests.{eqb-true, ne_eqb}
 use Rattle.lists.proofs.Cases.{or_left, or_right}
 use Rattle.scan.specs.Bytes.{is_digit, is_sign, is_point}
 use Rattle.scan.specs.Front.{begins, after_one, after_all, is_nil}
@@ -16,7 +16,7 @@ use Rattle.scan.proofs.Bytes.{or_elim, digit_low}
 use Rattle.words.specs.Words.{same_word, upper}
 use Rattle.number.specs.Lexeme.{is_e, inf, infinity, nan, is_named, after_whole, has_digit, is_digits, is_exponent, is_decimal, is_unsigned, is_lexeme}
 use Rattle.number.proofs.Stop.{all_none, one_none}
-use Rattle.number.specs.Grammar.{OneByte, one, ◌then◌, both, ◌or◌, this, that, Maybe, absent, present, Named, named, Sign, Point, Digits, Digits1, Exp, Number, Unsigned, Float}
+use Rattle.number.specs.Grammar.{OneByte, one, ◌then◌, both, this, that, Maybe, absent, present, named, Sign, Digits, Digits1, Exp, Number, Unsigned, Float}
 
 -- bytes of different kinds
 pub digit_sign : (b : ℕ) → is_digit b ≡ true → is_sign b ≡ false

@@ -1,9 +1,9 @@
 -- A lexeme has only inner bytes: no blank and no mark.
 -- Assumes nothing.
-use mathlib.Core.Path.{◌≡◌, refl, sym, ap, ◌∙◌}
-use mathlib.Core.Bool.{Bool, true, false, cond, ◌&&◌, false≢true, and-eq-true_iff}
+use mathlib.Core.Path.{◌≡◌, refl}
+use mathlib.Core.Bool.{Bool, true, false, cond, false≢true, and-eq-true_iff}
 use mathlib.Core.List.{List, [], ◌∷◌, ◌++◌}
-use Prim.Native.Nat.{ℕ, ◌≤◌, ◌<◌, ◌-◌}
+use Prim.Native.Nat.{ℕ, ◌≤◌, ◌-◌}
 use native.Mathlib.Omega.{arith}
 use lib.Dec.{eqb, leb}
 use lib.ListN.{length}
@@ -14,7 +14,7 @@ use Rattle.scan.proofs.Bytes.{above_inner, digit_inner, sign_inner, point_inner}
 use Rattle.scan.proofs.Runs.{whole}
 use Rattle.words.specs.Words.{same_word, upper, is_lower}
 use Rattle.number.specs.Lexeme.{is_e, inf, infinity, nan, is_lexeme}
-use Rattle.number.specs.Grammar.{OneByte, one, ◌then◌, both, ◌or◌, this, that, Maybe, absent, present, Named, named, Digits1, Exp, Number, Float}
+use Rattle.number.specs.Grammar.{OneByte, one, both, this, that, Maybe, absent, present, named, Digits1, Exp, Number, Float}
 use Rattle.number.proofs.Stop.{e_inner}
 use Rattle.number.proofs.Equal.{sound}
 

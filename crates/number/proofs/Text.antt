@@ -1,14 +1,14 @@
 -- What each step over a text shows, in the variables of the code.
 -- Assumes nothing.
 use mathlib.Core.Path.{◌≡◌, refl, sym, ap, ap₂, ◌∙◌}
-use mathlib.Core.Bool.{Bool, true, false, cond, not, ◌||◌, ◌&&◌, and-true}
-use mathlib.Core.List.{List, [], ◌∷◌, ◌++◌}
+use mathlib.Core.Bool.{Bool, true, false, not, ◌||◌, ◌&&◌, and-true}
+use mathlib.Core.List.{List, [], ◌∷◌}
 use Prim.Native.Nat.{ℕ, ◌+◌, ◌≤◌, ◌<◌}
 use native.Mathlib.Decide.{dec_lt}
 use native.Mathlib.Omega.{arith}
 use lib.Dec.{eqb, leb, ltb}
 use lib.ListN.{length, get_or}
-use borrow.Author.Tests.{ltb-true, ltb-false, leb-true, leb-false, le-leb, lt-leb, eqb-true, ne_eqb, not-false}
+use borrow.Author.Tests.{ltb-true, ltb-false, leb-true, leb-false, le-leb, lt-leb, eqb-true, ne_eqb}
 use Rattle.scan.specs.Bytes.{is_inner, is_stop, is_digit, is_sign, is_point}
 use Rattle.scan.specs.Front.{rest, part, begins, after_one, after_all, is_nil}
 use Rattle.scan.specs.Runs.{first_not, after_one_at}
@@ -17,8 +17,8 @@ use Rattle.scan.proofs.Front.{rest_past, begins_at, one_yes, part_first, part_no
 use Rattle.scan.proofs.Runs.{on, stop, past, not_before, not_past, moves, rest_run, rest_one, scan_on, scan_one, part_one}
 use Rattle.words.specs.Words.{same_word, upper}
 use Rattle.number.specs.declared.Lexeme.{Lexeme}
-use Rattle.number.specs.Lexeme.{is_e, inf, infinity, nan, is_named, at_stop, after_whole, is_digits, is_exponent, is_decimal, is_unsigned, is_lexeme, up_to_stop, from_here}
-use Rattle.number.proofs.Stop.{e_inner, decimal_part, all_none, one_none}
+use Rattle.number.specs.Lexeme.{is_e, is_named, at_stop, after_whole, is_digits, is_exponent, is_decimal, is_unsigned, is_lexeme, up_to_stop, from_here}
+use Rattle.number.proofs.Stop.{decimal_part, all_none, one_none}
 use Rattle.number.proofs.Inner.{lexeme_whole}
 
 same : {g h : Bool} {a b : ℕ} → g ≡ h → a ≡ b → ◌≡◌ {A = Lexeme} (record { good = g; end = a }) (record { good = h; end = b })

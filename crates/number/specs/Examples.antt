@@ -6,7 +6,6 @@ use Rattle.scan.specs.Text.{bytes}
 use Rattle.scan.specs.Front.{begins, after_one, after_all, is_nil}
 use Rattle.scan.specs.Runs.{run, first_not}
 use Rattle.words.specs.Words.{same_word}
-use Rattle.number.specs.declared.Lexeme.{Lexeme}
 use Rattle.number.specs.Lexeme.{is_e, is_named, is_digits, is_exponent, is_decimal, is_unsigned, is_lexeme, is_plain, DigitsAfter, up_to_stop}
 
 good : (is_lexeme (bytes "-1.5e+3") ≡ true)
