@@ -39,7 +39,7 @@ above r b h = go (leb r.low b)
     go false = refl
 
 not_empty : {n : ℕ} {t : List (List Range)} → Rising n t → Memᴰ [] t → ⊥
-not_empty top m = Memᴰ.not_nil m
+not_empty top m = Memᴰ.not-nil m
 not_empty (up {r} {rs} {t} p q s u) m = go (Memᴰ.cases_cons m) (not_empty u)
   where
     go : ([] ≡ (r ∷ rs)) ⊎ Memᴰ [] t → (Memᴰ [] t → ⊥) → ⊥
@@ -48,7 +48,7 @@ not_empty (up {r} {rs} {t} p q s u) m = go (Memᴰ.cases_cons m) (not_empty u)
 
 module _ (b : ℕ) {row : List Range} (e : leads row b ≡ true) where
   not_below : {n : ℕ} {t : List (List Range)} → Rising n t → Memᴰ row t → n ≤ b
-  not_below top m = absurd (Memᴰ.not_nil m)
+  not_below top m = absurd (Memᴰ.not-nil m)
   not_below (up {n} {r} {rs} {t} p q s u) m = go (Memᴰ.cases_cons m) (not_below u)
     where
       go : (row ≡ (r ∷ rs)) ⊎ Memᴰ row t → (Memᴰ row t → suc r.high ≤ b) → n ≤ b
@@ -57,7 +57,7 @@ module _ (b : ℕ) {row : List Range} (e : leads row b ≡ true) where
 
   fit_only : (l : List ℕ) {n : ℕ} {t : List (List Range)} → Rising n t → Memᴰ row t → fits row (b ∷ l) ≡ true → first_fit t (b ∷ l) ≡ length row
   unfolding first_fit fits
-  fit_only l top m f = absurd (Memᴰ.not_nil m)
+  fit_only l top m f = absurd (Memᴰ.not-nil m)
   fit_only l (up {r} {rs} {t} p q s u) m f = go (Memᴰ.cases_cons m) (λ m. fit_only l u m f)
     where
       go : (row ≡ (r ∷ rs)) ⊎ Memᴰ row t → (Memᴰ row t → first_fit t (b ∷ l) ≡ length row) → cond (holds r b && fits rs l) (suc (length rs)) (first_fit t (b ∷ l)) ≡ length row

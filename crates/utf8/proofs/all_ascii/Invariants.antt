@@ -1,14 +1,8 @@
 -- What `utf8::all_ascii` keeps true in its loops, and what falls.
-use mathlib.Core.Path.{◌≡◌, refl}
-use mathlib.Core.Logic.{⊎_elim}
+use mathlib.Core.Path.{◌≡◌}
 use Prim.Native.Nat.{◌+◌, ◌-◌, ◌≤◌, ◌<◌}
-use native.Mathlib.Omega.{arith}
-use lib.ListN.{length, get_or}
-use borrow.Author.Rules.{rules}
-use borrow.Author.Tests.{ltb-true}
 use Rattle.scan.specs.Front.{rest}
 use Rattle.utf8.specs.Utf8.{first_ill}
-use Rattle.utf8.proofs.Walk.{on_most}
 use Rattle.utf8.proofs.all_ascii.Given as goal
 
 abbrev pub invariant-loop-i : goal.invariant-loop-i

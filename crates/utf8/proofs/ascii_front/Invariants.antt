@@ -1,12 +1,8 @@
 -- What `utf8::ascii_front` keeps true in its loops, and what falls.
-use mathlib.Core.Path.{◌≡◌, ◌∙◌}
+use mathlib.Core.Path.{◌≡◌}
 use Prim.Native.Nat.{◌+◌, ◌-◌, ◌≤◌}
-use native.Mathlib.Nat.{zero-add}
-use native.Mathlib.Omega.{arith}
 use lib.ListN.{length}
-use borrow.Author.Rules.{rules}
 use Rattle.scan.specs.Front.{rest}
-use Rattle.scan.proofs.Front.{rest_zero}
 use Rattle.utf8.specs.Utf8.{first_ill}
 use Rattle.utf8.proofs.ascii_front.Given as goal
 

@@ -1,16 +1,9 @@
 -- The loop keeps the answer: i, and how far whole characters go from there.
-use mathlib.Core.Path.{◌≡◌, sym, ◌∙◌}
-use Prim.Native.Nat.{◌+◌, ◌-◌, ◌≤◌}
+use mathlib.Core.Path.{sym, ◌∙◌}
 use native.Mathlib.Omega.{arith}
-use lib.ListN.{length}
-use Rattle.scan.specs.Front.{rest}
-use Rattle.utf8.specs.Utf8.{first_ill}
 use Rattle.utf8.proofs.Walk.{inside, on, on_ascii, stop, past}
 use borrow.Author.Rules.{rules}
 use Rattle.utf8.proofs.first_ill_formed.Goals as goal
-
-within : (c : tie.Else2 invariant-loop decreases-loop) → c.loop-i.i + c.width_at-width.result ≤ length c.args.text.now
-within c = inside _ _ _ c.width_at-width.ensures c.loop-i.invariant.0
 
 pub loop-i-init : goal.loop-i-init
 loop-i-init c = c.ascii_front-i.ensures
@@ -22,11 +15,11 @@ pub returns-then-width-eq0 : goal.returns-then-width-eq0
 returns-then-width-eq0 c = stop _ _ (sym c.if-width-eq0.true ∙ c.width_at-width.ensures) ∙ c.loop-i.invariant.1
 
 pub overflow_add-i-else-text-i-lt-ASCII_END : goal.overflow_add-i-else-text-i-lt-ASCII_END
-overflow_add-i-else-text-i-lt-ASCII_END c = omega (arith, within c)
+overflow_add-i-else-text-i-lt-ASCII_END c = omega (arith, inside _ _ _ c.width_at-width.ensures c.loop-i.invariant.0)
 
 pub loop-i-preserved : goal.loop-i-preserved
 loop-i-preserved c =
-    (within c, on _ _ _ c.width_at-width.ensures (omega arith) ∙ c.loop-i.invariant.1)
+    (inside _ _ _ c.width_at-width.ensures c.loop-i.invariant.0, on _ _ _ c.width_at-width.ensures (omega arith) ∙ c.loop-i.invariant.1)
 
 pub returns : goal.returns
 returns c = past _ _ c.loop-i-test.false ∙ c.loop-i.invariant.1

@@ -1,12 +1,9 @@
 -- What `utf8::first_ill_formed` keeps true in its loops, and what falls.
-use mathlib.Core.Path.{◌≡◌, sym, ◌∙◌}
+use mathlib.Core.Path.{◌≡◌}
 use Prim.Native.Nat.{◌+◌, ◌-◌, ◌≤◌}
-use native.Mathlib.Omega.{arith}
 use lib.ListN.{length}
 use Rattle.scan.specs.Front.{rest}
 use Rattle.utf8.specs.Utf8.{first_ill}
-use Rattle.utf8.proofs.Walk.{inside, on, on_ascii, stop, past}
-use borrow.Author.Rules.{rules}
 use Rattle.utf8.proofs.first_ill_formed.Given as goal
 
 abbrev pub invariant-loop-i : goal.invariant-loop-i

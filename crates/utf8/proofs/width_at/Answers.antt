@@ -1,28 +1,20 @@
 -- The loop keeps the answer: `char_width`, if the bytes that aren't looked at yet are as they should be.
-use mathlib.Core.Path.{◌≡◌, sym, ◌∙◌}
-use Prim.Native.Nat.{◌+◌, ◌-◌, ◌≤◌, ◌<◌}
+use mathlib.Core.Path.{sym, ◌∙◌}
 use native.Mathlib.Omega.{arith}
-use lib.ListN.{length}
-use Rattle.scan.specs.Front.{rest}
-use Rattle.utf8.specs.Utf8.{◌‥◌, char_width}
-use Rattle.utf8.specs.Leads.{if_followed}
 use Rattle.utf8.proofs.Followed.{begins_in, width_rest, more, lacks, done}
 use borrow.Author.Rules.{rules}
 use Rattle.utf8.proofs.width_at.Goals as goal
 
-inside : (c : tie.Then1 invariant-loop decreases-loop) → c.args.i + c.loop-have.have < length c.args.text.now
-inside c = begins_in _ _ _ (sym c.byte_in.ensures ∙ c.if-byte_in.true)
-
 pub loop-have-init : goal.loop-have-init
 loop-have-init c =
-    (omega arith, width_rest _ _ _ _ _ (search rules) c.width_of_lem.ensures c.second_low-low.ensures c.second_high-high.ensures)
+    (omega arith, width_rest _ _ _ _ _ (search rules) c.width_of-width.ensures c.second_low-low.ensures c.second_high-high.ensures)
 
 pub overflow_add-have : goal.overflow_add-have
-overflow_add-have c = omega (arith, inside c)
+overflow_add-have c = omega (arith, begins_in _ _ _ (sym c.byte_in.ensures ∙ c.if-byte_in.true))
 
 pub loop-have-preserved : goal.loop-have-preserved
 loop-have-preserved c =
-    (omega (arith, inside c), more _ _ _ _ _ _ _ (omega arith) (omega arith) (sym c.byte_in.ensures ∙ c.if-byte_in.true) ∙ c.loop-have.invariant.1)
+    (omega (arith, begins_in _ _ _ (sym c.byte_in.ensures ∙ c.if-byte_in.true)), more _ _ _ _ _ _ _ (omega arith) (omega arith) (sym c.byte_in.ensures ∙ c.if-byte_in.true) ∙ c.loop-have.invariant.1)
 
 pub returns-else-byte_in : goal.returns-else-byte_in
 returns-else-byte_in c = lacks _ _ _ _ _ (omega arith) (sym c.byte_in.ensures ∙ c.if-byte_in.false) ∙ c.loop-have.invariant.1

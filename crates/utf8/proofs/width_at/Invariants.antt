@@ -1,13 +1,10 @@
 -- What `utf8::width_at` keeps true in its loops, and what falls.
-use mathlib.Core.Path.{◌≡◌, sym, ◌∙◌}
-use Prim.Native.Nat.{◌+◌, ◌-◌, ◌≤◌, ◌<◌}
-use native.Mathlib.Omega.{arith}
+use mathlib.Core.Path.{◌≡◌}
+use Prim.Native.Nat.{◌+◌, ◌-◌, ◌≤◌}
 use lib.ListN.{length}
 use Rattle.scan.specs.Front.{rest}
 use Rattle.utf8.specs.Utf8.{◌‥◌, char_width}
 use Rattle.utf8.specs.Leads.{if_followed}
-use Rattle.utf8.proofs.Followed.{begins_in, width_rest, more, lacks, done}
-use borrow.Author.Rules.{rules}
 use Rattle.utf8.proofs.width_at.Given as goal
 
 abbrev pub invariant-loop-have : goal.invariant-loop-have
