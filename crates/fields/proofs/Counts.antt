@@ -1,11 +1,11 @@
 -- Laws of counts in bytes, over any number of bytes.
 -- Assumes nothing.
-use mathlib.Core.Path.{◌≡◌, refl, sym, ap, ◌∙◌}
+use mathlib.Core.Path.{◌≡◌, refl, sym, ◌∙◌}
 use mathlib.Core.List.{List, [], ◌∷◌, ◌++◌, append_assoc, append-nil}
 use Prim.Native.Nat.{ℕ, zero, suc, ◌+◌, ◌-◌, ◌*◌, ◌/◌, ◌%◌, ◌^◌, ◌≤◌, ◌<◌}
 use native.Mathlib.Omega.{arith}
 use native.Mathlib.Numerals.{add-one}
-use native.Mathlib.Nat.{add-zero, add-suc, suc-add, one-mul, zero-add, pow-zero, pow-suc, div-add-mod', div-lt_iff_lt-mul, mod-lt, mul-le-mul_right, mul_assoc, mod-eq_of_lt, lt_of_lt_of_le, pow-le-pow_right}
+use native.Mathlib.Nat.{add-zero, zero-add, pow-suc, div-add-mod', div-lt_iff_lt-mul, mod-lt, mul-le-mul_right, mod-eq_of_lt, lt_of_lt_of_le, pow-le-pow_right}
 use lib.Arith.{lt-one, digits_div, digits_mod}
 use lib.Dec.{lit<}
 use lib.ListN.{length, get_or, take, drop, length-append, length-take}

@@ -1,19 +1,19 @@
 -- Laws of fields: what stands at a place where a field was put, and what was put where a field stands.
 -- Assumes nothing.
 use mathlib.Core.Path.{◌≡◌, refl, sym, ap, ap₂, ◌∙◌}
-use mathlib.Core.Bool.{true, ◌&&◌, and-eq-true_iff}
-use mathlib.Core.List.{List, [], ◌∷◌, ◌++◌, append_assoc}
-use Prim.Native.Nat.{ℕ, suc, ◌+◌, ◌-◌, ◌≤◌, ◌<◌}
+use mathlib.Core.Bool.{true}
+use mathlib.Core.List.{List, ◌∷◌, ◌++◌, append_assoc}
+use Prim.Native.Nat.{ℕ, ◌+◌, ◌-◌, ◌≤◌, ◌<◌}
 use native.Mathlib.Omega.{arith}
 use native.Mathlib.Numerals.{add-one}
-use native.Mathlib.Nat.{add-zero, add_assoc}
+use native.Mathlib.Nat.{add-zero}
 use lib.Dec.{eqb, leb}
 use lib.ListN.{length, get_or, take, drop, length-append, length-drop, take-append-drop}
 use lib.Seq.{length-take-le, drop-cons, drop-drop, get_or-drop, take_at, drop_at}
 use borrow.Author.Tests.{eqb-true, eq-eqb, leb-true, le-leb}
 use Rattle.lists.specs.Lists.{All}
 use Rattle.lists.proofs.Cases.{and_both}
-use Rattle.fields.specs.Counts.{byte, IsByte, count_in, count_bytes}
+use Rattle.fields.specs.Counts.{IsByte, count_in, count_bytes}
 use Rattle.fields.specs.Fields.{length_width, head_length, longest, field, length_in, content_end, content_in, is_field, is_sized}
 use Rattle.fields.proofs.Counts.{bytes_length, count_of_bytes, count_bound, bytes_of_count, all_take, all_drop}
 
