@@ -1,5 +1,5 @@
 -- Worked examples of this crate's definitions, by computation.
-use Rattle.std.specs.Prelude.{◌≡◌, refl, Bool, true, not, List, [], ◌∷◌, ◌++◌, ℕ, ◌-◌, eqb, length}
+use Rattle.std.specs.Prelude.{◌≡◌, refl, Bool, true, not, List, [], ◌∷◌, ◌++◌, ℕ, eqb, length}
 use Rattle.lists.specs.Lists.{passing, bytes_that, every}
 use Rattle.scan.specs.Text.{bytes}
 use Rattle.scan.specs.Front.{begins, after_one, after_all, is_nil}
