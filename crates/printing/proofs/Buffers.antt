@@ -3,14 +3,14 @@
 use mathlib.Core.Path.{◌≡◌, refl, sym, ap, ◌∙◌}
 use mathlib.Core.Bool.{Bool, true, false}
 use mathlib.Core.List.{List, [], ◌∷◌, ◌++◌}
-use Prim.Native.Nat.{ℕ, ◌+◌, ◌≤◌, min}
+use Prim.Native.Nat.{ℕ, ◌+◌, min}
 use native.Mathlib.Omega.{arith}
 use lib.Dec.{leb}
 use lib.ListN.{length}
 use lib.Seq.{sets}
 use Rattle.pen.specs.declared.Pen.{Pen}
 use Rattle.pen.specs.Pen.{pen, has_room, pen_after, out_after, Puts}
-use Rattle.printing.specs.Printing.{Buffer, buffer, full_of, has_room_at, standing, put_in, put_all_in}
+use Rattle.printing.specs.Printing.{Buffer, buffer, has_room_at, standing, put_in, put_all_in}
 
 -- what a pen says of the buffer, by whether the text had room
 module _ {text out out' : List ℕ} {at : ℕ} {r : Pen} (h : Puts text (pen at false) out r out') where

@@ -1,5 +1,5 @@
 -- Worked examples of this crate's definitions, by computation.
-use Rattle.std.specs.Prelude.{◌≡◌, refl, List, [], ◌∷◌, ℕ}
+use Rattle.std.specs.Prelude.{◌≡◌, refl, List, [], ℕ}
 use Rattle.scan.specs.Text.{bytes}
 use Rattle.printing.specs.Printing.{buffer, has_room_at, put_in, put_all_in, places_from, decimal, spaced}
 

@@ -6,8 +6,14 @@
 ghost use Rattle.std.specs.Prelude.{◌≡◌, [], ◌∷◌, ◌≤◌, min};
 ghost use Rattle.printing.specs.Printing.{buffer, put_in, put_all_in, decimal, spaced};
 
-use libc::STDOUT_FILENO;
 use pen::Pen;
+
+// What a system has always open, by number: standard input, standard output and standard error.
+pub const STDIN_FILENO: i32 = 0;
+
+pub const STDOUT_FILENO: i32 = 1;
+
+pub const STDERR_FILENO: i32 = 2;
 
 // The most digits that a u64 has.
 const MAX_DIGITS: usize = 20;
