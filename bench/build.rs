@@ -1,5 +1,5 @@
 //! Links the proved library. `DOORHOLLOW_LIBRARY` is the folder that has it, where that
-//! isn't the one that `rt staticlib` writes to.
+//! isn't the one that `tools/library` writes to.
 
 use std::env;
 use std::path::Path;

@@ -1,7 +1,7 @@
 /*
  * Doorhollow: a reader and canonical writer of well-known text (WKT).
  *
- * The functions stand in libwkt_c.a, which `rt staticlib wkt_c` proves and
+ * The functions stand in libwkt_c.a, which `tools/library` proves and
  * writes. Nothing is allocated and nothing is kept: a call looks at what it is
  * lent, fills what it is lent, and is done. Any number of threads may call, as
  * long as none of them writes to what another one's call was lent.

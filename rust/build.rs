@@ -1,5 +1,5 @@
 //! Tells the linker where `libwkt_c.a` stands: in the folder that DOORHOLLOW_LIB_DIR names, or else in
-//! `target/staticlib` of the repository, where `rt staticlib wkt_c` writes it.
+//! `target/staticlib` of the repository, where `tools/library` puts it.
 use std::env;
 use std::path::PathBuf;
 
@@ -19,7 +19,7 @@ fn main() {
     }
     if !library.is_file() {
         panic!(
-            "{} isn't there: run `rt staticlib wkt_c`, or set DOORHOLLOW_LIB_DIR to its folder",
+            "{} isn't there: run `tools/library`, or set DOORHOLLOW_LIB_DIR to its folder",
             library.display()
         );
     }
