@@ -14,7 +14,7 @@ use lib.Seq.{length-take-le, get_or-take}
 use Rattle.lists.specs.Lists.{every}
 use Rattle.lists.proofs.Lists.{every_head, every_tail}
 use Rattle.lists.proofs.Ranges.{all_from, all_from_law}
-use Rattle.words.specs.Words.{upper, same_byte, starts_word}
+use Rattle.words.specs.Words.{same_byte, starts_word}
 use Rattle.words.proofs.Words.{too_short, starts_on, starts_off, starts_end}
 use Rattle.names.specs.Letters.{is_capital, packed_of, four_at}
 

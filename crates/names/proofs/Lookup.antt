@@ -40,7 +40,7 @@ module _ {A : Type 0} (test : List ℕ → List ℕ → Bool) (other : A) (w : L
 
 -- where no two strings of a table are the same word, a word finds the row whose string it is
 pub finds : {A : Type 0} (other : A) (w : List ℕ) (rows : List (A × List ℕ)) → pairwise differ rows ≡ true → (row : A × List ℕ) → Memᴰ row rows → same_word w row.1 ≡ true → lookup same_word other rows w ≡ row.0
-finds other w [] d row m h = absurd (Memᴰ.not_nil m)
+finds other w [] d row m h = absurd (Memᴰ.not-nil m)
 finds {A} other w (first ∷ rows) d row m h = ⊎_elim here (λ n. later n (finds other w rows (pairwise_tail differ first rows d) row n h)) (Memᴰ.cases_cons m)
   where
     here : row ≡ first → lookup same_word other (first ∷ rows) w ≡ row.0

@@ -85,7 +85,7 @@ no_front [] h = refl
 no_front (a ∷ l) h = absurd (omega (arith, h))
 
 module _ (w : List ℕ) (row : ℕ) (h : row < 7) where
-  name_passed : starts_word w (name_at row) ≡ false → names_from (row + 1) w ≡ names_from row w
+  pub name_passed : starts_word w (name_at row) ≡ false → names_from (row + 1) w ≡ names_from row w
   name_passed t = row_passed starts_word Front.Other front_row w (name_row row h).stands t
 
   -- for either of two reasons
