@@ -1,19 +1,17 @@
 -- What the steps of reading a token show, in the variables of the code.
 -- Assumes nothing.
 use mathlib.Core.Path.{◌≡◌, refl, ap, ◌∙◌}
-use mathlib.Core.Bool.{Bool, true, false, cond}
+use mathlib.Core.Bool.{Bool, cond}
 use mathlib.Core.List.{List}
-use Prim.Native.Nat.{ℕ, ◌+◌, ◌-◌, ◌≤◌, ◌<◌}
+use Prim.Native.Nat.{ℕ, ◌-◌, ◌≤◌, ◌<◌}
 use native.Mathlib.Omega.{arith}
 use lib.ListN.{length, get_or}
 use borrow.Author.Tests.{le-leb, lt-leb, ne_eqb}
-use Rattle.scan.specs.Bytes.{is_blank, is_inner, is_numberlike, is_plus}
-use Rattle.scan.specs.Runs.{first_not, after_one_at}
+use Rattle.scan.specs.Bytes.{is_inner, is_numberlike, is_plus}
 use Rattle.scan.proofs.Runs.{not_before, one_not_past}
 use Rattle.number.specs.declared.Lexeme.{Lexeme}
 use Rattle.number.specs.Lexeme.{is_lexeme, up_to_stop}
 use Rattle.token.specs.declared.Found.{Found}
-use Rattle.token.specs.declared.Read.{Read}
 use Rattle.token.specs.declared.Token.TheVariants.{Word}
 use Rattle.token.specs.Tokens.{read, end_of, after_blank, text_start, number_or, number_from, number_at, word_at, start_at, token_at}
 

@@ -11,7 +11,7 @@ use scan::{after_blank, after_plus, is_numberlike, skip_blanks, token_end};
 
 const NUL: u8 = 0;
 
-#[derive(Drop)]
+#[derive(Clone, Copy)]
 pub enum Token {
     Comma,
     // Where the number's text starts, after a dropped `+`, and its length.
@@ -23,7 +23,7 @@ pub enum Token {
 }
 
 // What a demand for a token finds, with the place where it starts.
-#[derive(Drop)]
+#[derive(Clone, Copy)]
 pub enum Found {
     // NUL, or the end of the text.
     NoToken(usize),
@@ -32,14 +32,14 @@ pub enum Found {
 }
 
 // What was read, and the place to read on from.
-#[derive(Drop)]
+#[derive(Clone, Copy)]
 pub struct Read {
     pub found: Found,
     pub at: usize,
 }
 
 // A refusal's number and place.
-#[derive(Drop)]
+#[derive(Clone, Copy)]
 pub struct Refusal {
     pub number: u32,
     pub place: usize,
