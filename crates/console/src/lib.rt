@@ -7,8 +7,7 @@ ghost use Rattle.io.specs.Counts.{IsPrefixLen};
 ghost use Rattle.printing.specs.Printing.{buffer, put_all_in};
 ghost use Rattle.console.specs.Console.{is_over_input, room_for_nodes, room_for_numbers, counts_line, refusal_line, too_long_line, u32_at};
 
-use libc::STDIN_FILENO;
-use printing::{put, put_spaced};
+use printing::{STDIN_FILENO, put, put_spaced};
 use refusals::TEXT_TOO_LONG;
 use store::{NODE_WIDTH, NUMBER_WIDTH};
 
