@@ -821,7 +821,7 @@ pub const NO_VERSIONS: [u32; 10] = [0, 3, 4, 255, 257, 258, 65_538, 1 << 24, 2 <
 fn bad_records() -> Vec<Vec<u8>> {
     let empty = VERSIONS.map(|version| bytes_of(&fields_of(version, "POINT EMPTY")));
     let mut records = vec![Vec::new()];
-    for letter in [b'r', b'w', b's', b't', b'i', b'M', b'l', b'x', 0, 255] {
+    for letter in [b'r', b'w', b's', b't', b'i', b'M', b'm', b'l', b'x', 0, 255] {
         records.push(record(letter, &[1, 3, 0, 1, 0, 0], &empty[0]));
     }
     for (index, version) in NO_VERSIONS.into_iter().enumerate() {
