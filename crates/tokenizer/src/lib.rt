@@ -7,7 +7,7 @@ ghost use Rattle.tokenizer.specs.Tokens.{cursor_at, take_at, hold, look_at, is_n
 use token::{Found, Token, read_at};
 
 // What was looked at and not yet taken.
-#[derive(Drop)]
+#[derive(Clone, Copy)]
 pub enum Held {
     Nothing,
     NoToken(usize),
@@ -16,21 +16,21 @@ pub enum Held {
 }
 
 // A place in a text, and what is held of what stands before it.
-#[derive(Drop)]
+#[derive(Clone, Copy)]
 pub struct Cursor {
     pub at: usize,
     pub held: Held,
 }
 
 // An answer, with the cursor to go on with.
-#[derive(Drop)]
+#[derive(Clone, Copy)]
 pub struct Step {
     pub found: Found,
     pub next: Cursor,
 }
 
 // Whether a comma was passed over, and the cursor to go on with, which holds any other token.
-#[derive(Drop)]
+#[derive(Clone, Copy)]
 pub struct Passed {
     pub comma: bool,
     pub next: Cursor,
@@ -38,7 +38,7 @@ pub struct Passed {
 
 // Whether `(` was passed over, where the token starts that was looked at, and the cursor to go on with, which holds any
 // other token.
-#[derive(Drop)]
+#[derive(Clone, Copy)]
 pub struct PassedOpen {
     pub opens: bool,
     pub place: usize,
@@ -46,7 +46,7 @@ pub struct PassedOpen {
 }
 
 // Whether `)` is next, without a blank in front, and the place behind it.
-#[derive(Drop)]
+#[derive(Clone, Copy)]
 pub struct Closes {
     pub close: bool,
     pub at: usize,
