@@ -1,0 +1,19 @@
+-- `infer_type::infer_with_paren` meets its contract: a law of `Infer` for each return; `front_fits` has the name within the part.
+use mathlib.Core.Path.{sym, ◌∙◌}
+use native.Mathlib.Omega.{arith}
+use Rattle.names.proofs.Fronts.{front_fits}
+use Rattle.infer_type.proofs.Infer.{opened_named, opened_other}
+use Rattle.infer_type.proofs.infer_with_paren.Goals as goal
+
+pub slice_bounds-dimension_in-count : goal.slice_bounds-dimension_in-count
+slice_bounds-dimension_in-count c = omega (arith, front_fits _ _ _ (sym c.front_of.ensures ∙ c.in-Begun.is))
+
+pub slice_bounds-dimension_in-start : goal.slice_bounds-dimension_in-start
+slice_bounds-dimension_in-start c = omega (arith, front_fits _ _ _ (sym c.front_of.ensures ∙ c.in-Begun.is))
+
+pub returns-in-Begun : goal.returns-in-Begun
+returns-in-Begun c =
+    c.accept.ensures ∙ opened_named _ _ (sym c.front_of.ensures ∙ c.in-Begun.is) c.dimension_in.ensures
+
+pub returns-in-Other : goal.returns-in-Other
+returns-in-Other c = c.refuse.ensures ∙ opened_other _ _ (sym c.front_of.ensures ∙ c.in-Other.is)
