@@ -12,10 +12,9 @@ ghost use Rattle.messages.specs.ExpectedLines.{expected_lines};
 ghost use Rattle.messages.specs.Complaint.{told_line, complaint};
 
 use expected_lines::EXPECTED_LINES;
-use libc::STDERR_FILENO;
 use line_places::line_at;
 use message_lines::MESSAGE_LINES;
-use printing::{least, put, put_number};
+use printing::{STDERR_FILENO, least, put, put_number};
 
 // A message with all that stands before it is shorter.
 const LINE_BYTES: usize = 1_024;
