@@ -1,5 +1,4 @@
 -- A reader as a thing that demands tokens: it takes the next token or looks at it, and in the end answers.
-use Rattle.std.specs.Prelude.{ℕ}
 use Rattle.token_stream.specs.Stream.{Tok, Str, hd, tl}
 
 pub data P (A : Type 0) : Type 0 where

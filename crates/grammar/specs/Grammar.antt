@@ -1,17 +1,17 @@
 -- The grammar (document 01, "Reading"), as a reader of tokens. Above a definition stands in brackets the Rust function that it is.
-use Rattle.std.specs.Prelude.{Bool, false, cond, ◌||◌, List, [], ◌∷◌, ◌++◌, ℕ, zero, suc, ◌+◌, eqb, ltb, leb, length}
+use Rattle.std.specs.Prelude.{Bool, false, cond, List, [], ◌∷◌, ◌++◌, ℕ, zero, suc, ◌+◌, eqb, ltb, length}
 use Rattle.names.specs.declared.Name.{Name}
 use Rattle.names.specs.declared.Ending.{Ending}
-use Rattle.kinds.specs.Kinds.{kind_point, kind_line_string, kind_polygon, kind_multi_point, kind_multi_line_string, kind_multi_polygon, kind_geometry_collection, dim_xy, dim_xyz, dim_xym, dim_xyzm, has_z, has_m}
+use Rattle.kinds.specs.Kinds.{kind_point, kind_line_string, kind_polygon, kind_multi_point, kind_multi_line_string, kind_multi_polygon, kind_geometry_collection, dim_xy, has_z, has_m}
 use Rattle.names.specs.Names.{meaning, ending, is_empty_word}
 use Rattle.scan.specs.Bytes.{is_ascii}
 use Rattle.lists.specs.Lists.{every}
 use Rattle.refusals.specs.Refusals.{no_node_row, no_number_row, too_deep, non_ascii_root, no_root, unknown_name, no_header, unknown_header, not_opened, not_closed, no_x, no_y, no_z, no_m, no_child}
 use Rattle.store.specs.Rows.{Row, fresh_row, Span, span, close_in}
 use Rattle.token.specs.declared.Refusal.{Refusal}
-use Rattle.token_stream.specs.Stream.{Tok, Str}
+use Rattle.token_stream.specs.Stream.{Tok}
 use Rattle.grammar.specs.Asks.{P, ret, ask, look, bind}
-use Rattle.grammar.specs.Tokens.{sort_none, sort_bad, sort_open, sort_close, sort_comma, sort_number, sort_word, sort_of, place_of, start_of, text_of, refusal_at}
+use Rattle.grammar.specs.Tokens.{sort_open, sort_close, sort_comma, sort_number, sort_word, sort_of, place_of, start_of, text_of, refusal_at}
 
 -- the node rows and the number rows used so far
 pub data Out : Type 0 where

@@ -1,7 +1,7 @@
 -- The last token that a reading takes or looks at, computed for texts with bytes after the root: a `)` closes the root, and what follows it is not looked at.
-use Rattle.std.specs.Prelude.{◌≡◌, refl, List, [], ℕ}
+use Rattle.std.specs.Prelude.{◌≡◌, refl}
 use Rattle.scan.specs.Text.{bytes}
-use Rattle.token_stream.specs.Stream.{tok, close_tk, word_tk, none_tk}
+use Rattle.token_stream.specs.Stream.{tok, close_tk, word_tk}
 use Rattle.grammar.specs.Edges.{all}
 use Rattle.grammar.specs.LastToken.{last_of, last_token}
 

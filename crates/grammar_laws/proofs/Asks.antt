@@ -1,7 +1,7 @@
 -- Laws of feeding a reader: one reader after another, and that no reader makes a stream longer.
 -- Assumes nothing.
 use mathlib.Core.Path.{◌≡◌, refl, ap, ◌∙◌}
-use Prim.Native.Nat.{ℕ, ◌≤◌}
+use Prim.Native.Nat.{◌≤◌}
 use native.Mathlib.Omega.{arith}
 use Rattle.token_stream.specs.Stream.{Tok, Str, hd, tl, size}
 use Rattle.token_stream.proofs.Stream.{size_tl}

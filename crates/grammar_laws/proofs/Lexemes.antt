@@ -4,7 +4,7 @@
 use mathlib.Core.Path.{◌≡◌, refl, sym, ap, ◌∙◌}
 use mathlib.Core.Bool.{Bool, true, false, ◌||◌, ◌&&◌, false≢true}
 use mathlib.Core.List.{List, [], ◌∷◌, ◌++◌}
-use Prim.Native.Nat.{ℕ, ◌-◌}
+use Prim.Native.Nat.{ℕ}
 use native.Mathlib.Omega.{arith}
 use lib.Dec.{eqb, leb}
 use borrow.Author.Tests.{le-leb, eqb-true}
@@ -15,7 +15,7 @@ use Rattle.scan.proofs.Bytes.{or_elim, digit_high, digit_inner, sign_inner, poin
 use Rattle.words.specs.Words.{same_word}
 use Rattle.scan.specs.Front.{begins, after_one, after_all}
 use Rattle.number.specs.Lexeme.{is_e, inf, infinity, nan, is_named, is_decimal, is_unsigned, is_lexeme}
-use Rattle.number.specs.Grammar.{OneByte, one, both, ◌or◌, this, that, Maybe, absent, present, named, Digits1, Exp, Number, Float}
+use Rattle.number.specs.Grammar.{OneByte, one, both, this, that, Maybe, absent, present, named, Digits1, Exp, Number, Float}
 use Rattle.number.proofs.Equal.{sound}
 use Rattle.names.specs.Letters.{is_letter}
 use Rattle.lists.specs.Lists.{every}

@@ -7,7 +7,7 @@ use native.Mathlib.Omega.{arith}
 use lib.Dec.{eqb}
 use borrow.Author.Tests.{eq-eqb, ne_eqb}
 use Rattle.token.specs.declared.Refusal.{Refusal}
-use Rattle.token_stream.specs.Stream.{Tok, Str, end, then, hd, tl, size}
+use Rattle.token_stream.specs.Stream.{Str, end, then, hd, tl, size}
 use Rattle.grammar.specs.Asks.{P, ret, ask, look, ran, run}
 use Rattle.grammar.specs.Tokens.{sort_none, sort_comma, sort_of}
 use Rattle.grammar.specs.Grammar.{Out, Got, ok, refused, halt, and_then, fill, items}
