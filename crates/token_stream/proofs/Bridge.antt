@@ -9,7 +9,7 @@ use native.Mathlib.Omega.{arith}
 use native.Mathlib.Numerals.{add-one}
 use native.Mathlib.Decide.{dec_lt}
 use lib.Dec.{eqb}
-use lib.ListN.{length, get_or, take, drop, get_or-eq_default}
+use lib.ListN.{length, get_or, drop, get_or-eq_default}
 use lib.Seq.{drop-cons, drop-length}
 use borrow.Author.Tests.{le-leb, lt-leb, ne_eqb}
 use Rattle.scan.specs.Bytes.{is_blank, is_stop, is_inner, is_numberlike, is_plus}
@@ -17,13 +17,12 @@ use Rattle.scan.specs.Front.{part}
 use Rattle.scan.specs.Runs.{first_not, after_one_at}
 use Rattle.scan.proofs.Front.{part_first}
 use Rattle.scan.proofs.Runs.{on, stop, past, not_before, not_past, first_fails, one_on, one_off}
-use Rattle.number.specs.Lexeme.{is_lexeme, up_to_stop}
-use Rattle.token.specs.declared.Found.{Found}
+use Rattle.number.specs.Lexeme.{is_lexeme}
 use Rattle.token.specs.declared.Read.{Read}
 use Rattle.token.specs.declared.Refusal.{Refusal}
 use Rattle.token.specs.Tokens.{wrong_number_at, bad_at, end_of, after_blank, text_start, number_or, number_at, word_at, start_at, token_at, read_at}
 use Rattle.token.proofs.BadNumbers.{bad_is}
-use Rattle.token_stream.specs.Stream.{Tk, open_tk, close_tk, comma_tk, none_tk, bad_tk, word_tk, number_tk, tok, Str, end, then, cons, tok_in, toks_by, toks}
+use Rattle.token_stream.specs.Stream.{Tk, none_tk, bad_tk, number_tk, tok, Str, end, then, cons, tok_in, toks_by, toks}
 use Rattle.token_stream.specs.Lex.{mark_tk, number_token, run_tk, Lexed, lexed, flush, push, lex_byte, lex_run, lex}
 use Rattle.token_stream.proofs.Stream.{read_on_law, read_within, none_end, plus_end}
 use Rattle.lists.proofs.Cases.{either}

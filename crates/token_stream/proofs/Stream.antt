@@ -1,7 +1,7 @@
 -- The stream before a cursor: `take` gives its head and leaves its tail, and `look` gives its head and leaves it whole.
 -- Assumes nothing.
 use mathlib.Core.Path.{◌≡◌, refl, sym, ap, ◌∙◌}
-use mathlib.Core.Bool.{Bool, true, false, cond, not}
+use mathlib.Core.Bool.{Bool, true, false, cond}
 use mathlib.Core.List.{List}
 use mathlib.Core.Logic.{◌⊎◌, inl, inr}
 use Prim.Native.Nat.{ℕ, zero, suc, ◌+◌, ◌≤◌, ◌<◌}
@@ -10,21 +10,17 @@ use native.Mathlib.Omega.{arith}
 use lib.Dec.{eqb}
 use lib.ListN.{length, get_or}
 use borrow.Author.Tests.{le-leb, lt-leb, eqb-true, eq-eqb}
-use Rattle.scan.specs.Bytes.{is_blank, is_stop, is_inner, is_numberlike, is_plus}
-use Rattle.scan.specs.Runs.{first_not, after_one_at}
+use Rattle.scan.specs.Bytes.{is_blank, is_inner, is_numberlike, is_plus}
+use Rattle.scan.specs.Runs.{first_not}
 use Rattle.scan.proofs.Bytes.{plus_inner}
 use Rattle.scan.proofs.Runs.{on, past, not_before, not_past, first_fails, one_not_before, one_not_past, scan_one}
-use Rattle.number.specs.Lexeme.{is_lexeme, up_to_stop}
-use Rattle.token.specs.declared.Token.{Token}
-use Rattle.token.specs.declared.Token.TheVariants.{Comma, Number, ParenClose, ParenOpen, Word}
 use Rattle.token.specs.declared.Found.{Found}
 use Rattle.tokenizer.specs.declared.Held.{Held}
 use Rattle.token.specs.declared.Read.{Read}
 use Rattle.tokenizer.specs.declared.Cursor.{Cursor}
-use Rattle.token.specs.Tokens.{read, end_of, after_blank, text_start, number_or, number_at, word_at, start_at, token_at, read_at}
+use Rattle.token.specs.Tokens.{read, end_of, after_blank, text_start, number_at, word_at, start_at, token_at, read_at}
 use Rattle.tokenizer.specs.Tokens.{take_held, take_at, hold, look_at}
-use Rattle.token_stream.specs.Stream.{Tk, open_tk, close_tk, comma_tk, none_tk, bad_tk, word_tk, number_tk, Tok, tok, Str, end, then, hd, tl, size, none_then, cons, tk_in, tok_in, toks_by, toks, before, stream}
-use Rattle.token.proofs.Tokens.{start_end}
+use Rattle.token_stream.specs.Stream.{open_tk, close_tk, comma_tk, none_tk, bad_tk, word_tk, number_tk, Tok, tok, Str, end, then, hd, tl, size, none_then, cons, tok_in, toks_by, toks, before, stream}
 use Rattle.lists.proofs.Cases.{either}
 
 -- a token in front of a stream is its head, and the stream its tail

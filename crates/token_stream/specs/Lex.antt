@@ -1,6 +1,6 @@
 -- The tokens of a text byte by byte, with no cursor and no place to start from: what theorems about whole texts speak of.
 -- Proved equal to `toks` (proofs/Bridge).
-use Rattle.std.specs.Prelude.{Bool, cond, List, [], ◌∷◌, ℕ, ◌+◌, eqb}
+use Rattle.std.specs.Prelude.{cond, List, [], ◌∷◌, ℕ, ◌+◌, eqb}
 use Rattle.scan.specs.Bytes.{nul, paren_open, paren_close, plus, is_blank, is_stop, is_numberlike}
 use Rattle.number.specs.Lexeme.{is_lexeme}
 use Rattle.token.specs.declared.Refusal.{Refusal}

@@ -1,5 +1,5 @@
 -- What a cursor means: the stream of tokens still to come. A reader takes its head or looks at it, and the grammar is read over it.
-use Rattle.std.specs.Prelude.{ℕ, zero, suc, ◌+◌, Bool, true, false, cond, List, [], length, take, drop, eqb}
+use Rattle.std.specs.Prelude.{ℕ, zero, suc, ◌+◌, cond, List, length, take, drop, eqb}
 use Rattle.token.specs.declared.Token.{Token}
 use Rattle.token.specs.declared.Token.TheVariants.{Comma, Number, ParenClose, ParenOpen, Word}
 use Rattle.token.specs.declared.Found.{Found}
