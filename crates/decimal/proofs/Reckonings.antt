@@ -7,7 +7,7 @@ use mathlib.Core.List.{List}
 use Prim.Native.Nat.{ℕ, zero, suc, ◌≤◌}
 use native.Mathlib.Omega.{arith}
 use borrow.Author.Tests.{le-ltb}
-use lib.IntN.{ℤ, pos, negsuc, neg_ℤ}
+use lib.IntN.{pos, neg_ℤ}
 use lib.Signed.{lt_z}
 use Rattle.scan.specs.Bytes.{is_sign}
 use Rattle.scan.specs.Front.{after_one}

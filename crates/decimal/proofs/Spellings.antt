@@ -9,7 +9,6 @@ use Rattle.scan.specs.Text as text
 use Rattle.scan.specs.Bytes.{is_sign}
 use Rattle.scan.specs.Front.{after_one}
 use Rattle.number.specs.Lexeme.{is_named, is_lexeme}
-use Rattle.rounding.specs.declared.Reckoned.{Reckoned}
 use Rattle.rounding.specs.declared.Reckoned.TheVariants.{Sides, Named, Beyond, NoNumber}
 use Rattle.decimal.specs.Decimal.{Decimal, written, SameNumber}
 use Rattle.decimal.specs.Units.{low, high, is_far, is_large}

@@ -1,6 +1,6 @@
 -- Worked examples of this crate's definitions, by computation: the parts of a decimal as they are written, its fraction, its units, and what each sort of text
 -- comes to.
-use Rattle.std.specs.Prelude.{◌≡◌, refl, Bool, true, false, ◌&&◌, List, [], ◌∷◌, map, ℕ, ◌+◌, ◌^◌, eqb, ℤ, pos, neg_ℤ, length, replicate}
+use Rattle.std.specs.Prelude.{◌≡◌, refl, Bool, true, false, ◌&&◌, List, [], ◌∷◌, map, ℕ, eqb, ℤ, pos, neg_ℤ, length, replicate}
 use Rattle.lists.specs.Lists.{every, passing, bytes_that}
 use Rattle.scan.specs.Text.{bytes}
 use Rattle.scan.specs.Bytes.{is_digit}

@@ -1,24 +1,15 @@
 -- `decimal::raised` meets its contract: each turn moves a ten from the power into the value, until it reaches what a size is held at.
--- Assumes nothing.
 use mathlib.Core.Path.{◌≡◌, refl, sym, ap, ◌∙◌}
 use mathlib.Core.Bool.{Bool, true, false, not, ◌&&◌, true≢false}
 use Prim.Native.Nat.{ℕ, suc, ◌-◌, ◌*◌, ◌^◌, ◌≤◌, ◌<◌, min}
 use native.Mathlib.Nat.{mul_assoc, mul-one, zero-mul, pow-succ', mul-le-mul_left}
 use native.Mathlib.Omega.{arith}
-use borrow.Author.Rules.{rules}
 use borrow.Author.Tests.{ltb-true, ltb-false, eqb-true}
 use lib.Dec.{eqb, ltb}
 use Rattle.lists.proofs.Cases.{and_both}
 use Rattle.decimal.specs.Code.{held}
 use Rattle.decimal.proofs.Value.{ten_pos}
-use Rattle.decimal.proofs.raised.Statement.{statement}
-use Rattle.decimal.proofs.raised.Tie as tie
-
-abbrev invariant-loop : tie.invariant-loop
-invariant-loop value tens x₀ n₀ x n = (x < 10 * held) × (x * 10 ^ n ≡ value * 10 ^ tens)
-
-abbrev decreases-loop : tie.decreases-loop
-decreases-loop value tens x₀ n₀ x n = n
+use Rattle.decimal.proofs.raised.Goals as goal
 
 goes_on : (x n : ℕ) → ((ltb 0 n && not (eqb x 0)) && ltb x held) ≡ true → (0 < n) × (x < held)
 goes_on x n e =
@@ -52,33 +43,24 @@ below_held x w h e = omega arith
 from_held : (x w : ℕ) → held ≤ x → min x held ≡ min w held → held ≡ min w held
 from_held x w h e = omega arith
 
-loop-holds : tie.Need-loop-init invariant-loop decreases-loop
-loop-holds c = (omega arith, refl)
+pub loop-n-init : goal.loop-n-init
+loop-n-init c = (omega arith, refl)
 
-mul-x : tie.Need-overflow-mul-x invariant-loop decreases-loop
-mul-x c = search rules
+pub overflow_sub-n : goal.overflow_sub-n
+overflow_sub-n c = (goes_on c.loop-n.x c.loop-n.n c.loop-n-test.true).0
 
-sub-n : tie.Need-overflow-sub-n invariant-loop decreases-loop
-sub-n c = (goes_on c.before.loop.x c.before.loop.n c.loop-test.true).0
+pub loop-n-smaller : goal.loop-n-smaller
+loop-n-smaller c = omega (arith, (goes_on c.loop-n.x c.loop-n.n c.loop-n-test.true).0)
 
-loop-less : tie.Need-loop-smaller invariant-loop decreases-loop
-loop-less c = omega (arith, (goes_on c.before.loop.x c.before.loop.n c.loop-test.true).0)
+pub loop-n-preserved : goal.loop-n-preserved
+loop-n-preserved c =
+    let t = goes_on c.loop-n.x c.loop-n.n c.loop-n-test.true in
+    (omega (arith, t.1), turn c.loop-n.x c.loop-n.n t.0 ∙ c.loop-n.invariant.1)
 
-loop-again : tie.Need-loop-preserved invariant-loop decreases-loop
-loop-again c =
-    let b = c.before in
-    let t = goes_on b.loop.x b.loop.n c.loop-test.true in
-    (omega (arith, t.1), turn b.loop.x b.loop.n t.0 ∙ b.loop.invariant.1)
+pub returns-then-x-lt-SIZE_HELD : goal.returns-then-x-lt-SIZE_HELD
+returns-then-x-lt-SIZE_HELD c =
+    below_held c.loop-n.x _ c.if-x-lt-SIZE_HELD.true (stops c.loop-n.x c.loop-n.n _ c.loop-n-test.false c.loop-n.invariant.1)
 
-returns : tie.Need-returns invariant-loop decreases-loop
-returns c =
-    let b = c.before.before in
-    below_held b.loop.x _ c.if1.true (stops b.loop.x b.loop.n _ c.before.loop-test.false b.loop.invariant.1)
-
-returns-2 : tie.Need-returns-2 invariant-loop decreases-loop
-returns-2 c =
-    let b = c.before.before in
-    from_held b.loop.x _ c.if1.false (stops b.loop.x b.loop.n _ c.before.loop-test.false b.loop.invariant.1)
-
-pub raised-spec : {M : Type 1} → statement M
-raised-spec = tie.close (tie.spec invariant-loop decreases-loop loop-holds mul-x sub-n loop-less loop-again returns returns-2)
+pub returns-else-x-lt-SIZE_HELD : goal.returns-else-x-lt-SIZE_HELD
+returns-else-x-lt-SIZE_HELD c =
+    from_held c.loop-n.x _ c.if-x-lt-SIZE_HELD.false (stops c.loop-n.x c.loop-n.n _ c.loop-n-test.false c.loop-n.invariant.1)

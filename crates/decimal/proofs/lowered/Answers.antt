@@ -1,5 +1,4 @@
 -- `decimal::lowered` meets its contract: each turn takes the last digit off, and a ten off the power.
--- Assumes nothing.
 use mathlib.Core.Path.{◌≡◌, refl, sym, ap, ap₂, ◌∙◌}
 use mathlib.Core.Bool.{Bool, true, false, not, ◌||◌, ◌&&◌, true≢false}
 use Prim.Native.Nat.{ℕ, suc, ◌+◌, ◌-◌, ◌*◌, ◌/◌, ◌%◌, ◌^◌, ◌<◌}
@@ -12,14 +11,7 @@ use Rattle.lists.proofs.Cases.{and_both}
 use Rattle.decimal.specs.Code.{size}
 use Rattle.decimal.proofs.Value.{ten_pos, is_nought_law}
 use Rattle.decimal.proofs.Parts.{either_left}
-use Rattle.decimal.proofs.lowered.Statement.{statement}
-use Rattle.decimal.proofs.lowered.Tie as tie
-
-abbrev invariant-loop : tie.invariant-loop
-invariant-loop value tens left x₀ rest₀ n₀ x rest n = (x / 10 ^ n ≡ value / 10 ^ tens) × ((rest || not (eqb (x % 10 ^ n) 0)) ≡ (left || not (eqb (value % 10 ^ tens) 0)))
-
-abbrev decreases-loop : tie.decreases-loop
-decreases-loop value tens left x₀ rest₀ n₀ x rest n = n
+use Rattle.decimal.proofs.lowered.Goals as goal
 
 goes_on : (x n : ℕ) → (ltb 0 n && not (eqb x 0)) ≡ true → 0 < n
 goes_on x n e = ltb-true 0 n (and_both (ltb 0 n) (not (eqb x 0)) e).0
@@ -62,26 +54,21 @@ stops_left : (x n : ℕ) (rest : Bool) → x % 10 ^ n ≡ 0 → rest ≡ (rest |
 stops_left x n true e = refl
 stops_left x n false e = is_nought_law (x % 10 ^ n) e
 
-loop-holds : tie.Need-loop-init invariant-loop decreases-loop
-loop-holds c = (refl, refl)
+pub loop-n-init : goal.loop-n-init
+loop-n-init c = (refl, refl)
 
-sub-n : tie.Need-overflow-sub-n invariant-loop decreases-loop
-sub-n c = goes_on c.before.loop.x c.before.loop.n c.loop-test.true
+pub overflow_sub-n : goal.overflow_sub-n
+overflow_sub-n c = goes_on c.loop-n.x c.loop-n.n c.loop-n-test.true
 
-loop-less : tie.Need-loop-smaller invariant-loop decreases-loop
-loop-less c = omega (arith, goes_on c.before.loop.x c.before.loop.n c.loop-test.true)
+pub loop-n-smaller : goal.loop-n-smaller
+loop-n-smaller c = omega (arith, goes_on c.loop-n.x c.loop-n.n c.loop-n-test.true)
 
-loop-again : tie.Need-loop-preserved invariant-loop decreases-loop
-loop-again c =
-    let b = c.before in
-    let l = goes_on b.loop.x b.loop.n c.loop-test.true in
-    (turn b.loop.x b.loop.n l ∙ b.loop.invariant.0, turn_left b.loop.x b.loop.n b.loop.rest l ∙ b.loop.invariant.1)
+pub loop-n-preserved : goal.loop-n-preserved
+loop-n-preserved c =
+    let l = goes_on c.loop-n.x c.loop-n.n c.loop-n-test.true in
+    (turn c.loop-n.x c.loop-n.n l ∙ c.loop-n.invariant.0, turn_left c.loop-n.x c.loop-n.n c.loop-n.rest l ∙ c.loop-n.invariant.1)
 
-returns : tie.Need-returns invariant-loop decreases-loop
+pub returns : goal.returns
 returns c =
-    let b = c.before in
-    let s = stops b.loop.x b.loop.n c.loop-test.false in
-    ap₂ size (sym s.0 ∙ b.loop.invariant.0) (stops_left b.loop.x b.loop.n b.loop.rest s.1 ∙ b.loop.invariant.1)
-
-pub lowered-spec : {M : Type 1} → statement M
-lowered-spec = tie.close (tie.spec invariant-loop decreases-loop loop-holds sub-n loop-less loop-again returns)
+    let s = stops c.loop-n.x c.loop-n.n c.loop-n-test.false in
+    ap₂ size (sym s.0 ∙ c.loop-n.invariant.0) (stops_left c.loop-n.x c.loop-n.n c.loop-n.rest s.1 ∙ c.loop-n.invariant.1)
