@@ -1,11 +1,9 @@
 -- Worked examples with more digits than are computed by counting them: so many digits are the fewest.
 -- Assumes nothing.
-use mathlib.Core.Path.{◌≡◌, refl, sym}
-use Prim.Native.Nat.{ℕ}
+use mathlib.Core.Path.{◌≡◌, sym}
 use native.Mathlib.Omega.{arith}
 use lib.IntN.{pos, negsuc}
 use Rattle.scan.specs.Text.{bytes}
-use Rattle.io.specs.Digits.{last_digits}
 use Rattle.printing.specs.Printing.{decimal}
 use Rattle.printing.proofs.Digits.{digits_are}
 use Rattle.signed_lines.specs.Signed.{signed, fraction, units}

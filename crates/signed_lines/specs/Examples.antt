@@ -1,9 +1,9 @@
 -- Worked examples of this crate's definitions, by computation.
-use Rattle.std.specs.Prelude.{◌≡◌, refl, ℕ, ◌-◌, ℤ, pos, negsuc, neg_ℤ, replicate}
+use Rattle.std.specs.Prelude.{◌≡◌, refl, ℕ, pos, negsuc}
 use mathlib.Core.List.{List, [], ◌∷◌, ◌++◌, flat_map}
 use Rattle.scan.specs.Text.{bytes}
-use Rattle.printing.specs.Printing.{Buffer, buffer, has_room_at, put_in, put_all_in, places_from, decimal}
-use Rattle.signed_lines.specs.Signed.{signed, spaced_signed, fraction, units, spaced_units}
+use Rattle.printing.specs.Printing.{buffer, has_room_at, put_in, put_all_in, places_from, decimal}
+use Rattle.signed_lines.specs.Signed.{signed, fraction, units, spaced_units}
 use Rattle.signed_lines.specs.Places.{each_signed, not_nought, signed_left}
 
 -- what these texts are together
