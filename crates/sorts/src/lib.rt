@@ -27,7 +27,7 @@ pub const WORD: u32 = 6;
 
 // A token that was taken: its sort and place, the span of a number's text or of a word, and the place behind it, where
 // nothing is held.
-#[derive(Drop)]
+#[derive(Clone, Copy)]
 pub struct Taken {
     pub sort: u32,
     pub place: usize,
@@ -36,7 +36,7 @@ pub struct Taken {
     pub at: usize,
 }
 
-#[derive(Drop)]
+#[derive(Clone, Copy)]
 struct Clipped {
     start: usize,
     len: usize,
