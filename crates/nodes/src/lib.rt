@@ -15,7 +15,7 @@ pub const NO_KIND: u32 = 0;
 
 // An open node, some of whose children are still to come: its row, what the row says, how many collections are open with it, and
 // the index of the child that comes next. The outermost frame stands above the root: its kind is NO_KIND, and its one child is the root.
-#[derive(Drop)]
+#[derive(Clone, Copy)]
 pub struct Frame {
     pub row: usize,
     pub kind: u32,
@@ -26,7 +26,7 @@ pub struct Frame {
 }
 
 // A node in its place: its row, the index of its first number, what its row says, and its parent, in which it is the child `parent.next`.
-#[derive(Drop)]
+#[derive(Clone, Copy)]
 pub struct Visit {
     pub row: usize,
     pub number: usize,

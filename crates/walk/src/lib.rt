@@ -40,7 +40,7 @@ const LAST_ROW: usize = 18446744073709551615;
 const HALF: usize = 4294967296;
 
 // Where a walk stands: the next row, the next number, and the open nodes, the innermost in frame `top`, the outermost in the last.
-#[derive(Drop)]
+#[derive(Clone, Copy)]
 pub struct Walk {
     pub row: usize,
     pub number: usize,
