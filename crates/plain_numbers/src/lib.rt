@@ -9,7 +9,7 @@ ghost use Rattle.plain_numbers.specs.Plain.{is_minus, fraction_end, decimal_end,
 use scan::{after_blank, digits_end, is_stop};
 
 // Where a plain number ends, and the place to read on from: both are where it was looked for if there is none.
-#[derive(Drop)]
+#[derive(Clone, Copy)]
 pub struct Plain {
     pub end: usize,
     pub next: usize,
