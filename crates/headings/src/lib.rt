@@ -21,7 +21,7 @@ use token::Refusal;
 use tokenizer::Cursor;
 
 // `(` or EMPTY, with the kind, the dimension, its place and the place behind it, where nothing is held; or a refusal.
-#[derive(Drop)]
+#[derive(Clone, Copy)]
 pub enum Head {
     Opens(u32, u32, usize, usize),
     Empty(u32, u32, usize, usize),

@@ -1,0 +1,12 @@
+-- `headings::by_name` meets its contract.
+use Rattle.headings.proofs.Runs.{runs_ret}
+use Rattle.headings.proofs.by_name.Goals as goal
+
+pub returns-in-Unknown : goal.returns-in-Unknown
+returns-in-Unknown c = rw (c.in-Unknown.is, c.new.ensures) (record { is = runs_ret _ _ _ })
+
+pub returns-in-Bare : goal.returns-in-Bare
+returns-in-Bare c = rw c.in-Bare.is c.header.ensures
+
+pub returns-in-Joined : goal.returns-in-Joined
+returns-in-Joined c = rw c.in-Joined.is c.opener.ensures
