@@ -1,6 +1,6 @@
 -- Standard input through a buffer. "A record is a u32 [..] with the count n of the bytes that follow it, then n bytes".
 use Rattle.std.specs.Prelude.{ℕ, ◌+◌, ◌-◌, ◌≤◌, min, ◌≡◌, Bool, cond, List, ltb, length, take, drop}
-use Rattle.printing.specs.Printing.{Buffer, put_all_in, buffer}
+use Rattle.printing.specs.Printing.{Buffer, put_all_in}
 use Rattle.console.specs.Console.{u32_at}
 use Rattle.records.specs.Lines.{bad_record}
 use Rattle.records.specs.declared.input.State.{State}
@@ -38,7 +38,7 @@ InBuffer (Whole start end) n = (start ≤ end) × (end ≤ n)
 InBuffer (TooLarge _) n = Unit {0}
 InBuffer Cut n = Unit {0}
 
--- one read behind the unread bytes, which stand at the front of the buffer then. Which bytes come is outside of the language
+-- what is read behind the unread bytes, which stand at the front of the buffer then. Which bytes come is outside of the language
 pub record Refilled (s : State) (l : List ℕ) (s' : State) (l' : List ℕ) : Type 0 where
   pub kept : take (unread s l) l' ≡ take (unread s l) (drop (unread_from s l) l)
   pub more : s'.more ≡ ltb (unread s l) s'.have

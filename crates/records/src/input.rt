@@ -6,8 +6,7 @@ ghost use Rattle.records.specs.Input.{front_in, front_of, InBuffer, Refilled, cu
 use crate::lines::put_bad_record;
 use crate::parts::field;
 use console::U32_BYTES;
-use libc::STDIN_FILENO;
-use printing::least;
+use printing::{STDIN_FILENO, least};
 
 // Holds the largest record that a letter may have: two slices of 98,304 u32, a text, and some fields. A larger one is passed over.
 pub const INPUT_BYTES: usize = 1_048_576;
@@ -85,7 +84,8 @@ fn shift(bytes: &mut [u8], from: usize, to: usize)
     }
 }
 
-// Moves the unread bytes to the front, and reads once behind them.
+// Moves the unread bytes to the front, and fills the room behind them with what is still to be read. No byte comes where there
+// is no room, or where the input has ended or can't be read.
 pub fn refill(input: &mut [u8], mut s: State) -> State
     ensures { Refilled s input.old result input.new }
 {
@@ -93,8 +93,7 @@ pub fn refill(input: &mut [u8], mut s: State) -> State
     let from = least(s.from, to);
     shift(input, from, to);
     let left = to - from;
-    let got = libc::read(STDIN_FILENO, &mut input[left..]);
-    let count = io::count(got, &input[left..]);
+    let count = io::read_full(STDIN_FILENO, &mut input[left..]);
     let have = left + count;
     let passed = least(s.skip, have);
     s.from = passed;
