@@ -6,7 +6,6 @@ use mathlib.Core.List.{List}
 use denote.Ref.{Bor}
 use Rattle.lists.specs.One.{One}
 use Rattle.lists.proofs.One.{one}
-use Rattle.token.specs.declared.Found.{Found}
 use Rattle.tokenizer.specs.declared.Cursor.{Cursor}
 use Rattle.tokenizer.specs.Tokens.{cursor_at, take_at, look_at}
 use Rattle.token_reader.specs.declared.Tokens.{Tokens}

@@ -1,5 +1,5 @@
 -- Worked examples of this crate's definitions, by computation.
-use Rattle.std.specs.Prelude.{◌≡◌, List, [], ◌∷◌, ◌++◌, ℕ}
+use Rattle.std.specs.Prelude.{◌≡◌, List, ◌∷◌, ◌++◌, ℕ}
 use Rattle.std.proofs.Math.Path.{refl}
 use Rattle.std.specs.Borrow.{Bor}
 use Rattle.scan.specs.Text.{bytes}
@@ -23,9 +23,9 @@ unfolding text run first_not after_one_at number_at word_at start_at token_at re
 all = 0
 
 -- the text as it is lent, wherever it lies
-module _ (ptr : ℕ × ℕ) (name : ℕ) where
+module _ (ptr : ℕ × ℕ) where
   lent : Bor (List ℕ)
-  lent = record { ref_ptr = ptr; ghost_name = name; now = text }
+  lent = record { ref_ptr = ptr; now = text }
 
   -- a reader from a place on
   from : ℕ → Tokens

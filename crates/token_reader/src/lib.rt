@@ -1,6 +1,5 @@
 // The token reader: a lent text and the place in it together, `Tokens` of the Rust's tokenizer.rs.
-// A function over this struct is proved by a walk of its code, by hand. So each is thin: it takes the struct apart and leaves the work to
-// the cursor's own step.
+// Each function over this struct is thin: it takes the struct apart and leaves the work to the cursor's own step.
 #![tactic(auto)]
 
 ghost use Rattle.std.specs.Prelude.{◌≡◌};
@@ -12,7 +11,7 @@ use tokenizer::{Cursor, Step};
 
 const START: usize = 0;
 
-#[derive(Drop)]
+#[derive(Clone, Copy)]
 pub struct Tokens<'a> {
     pub text: &'a [u8],
     pub cursor: Cursor,
@@ -83,7 +82,7 @@ impl<'a> Tokens<'a> {
     }
 }
 
-// The four steps from a slice and a cursor, through a reader: by value, and lent. A caller's parameters are plain, so it needs no walk.
+// The four steps from a slice and a cursor, through a reader: by value, and lent.
 pub fn take_from(text: &[u8], cursor: Cursor) -> Step
     ensures { result ≡ take_at text.now cursor }
 {
