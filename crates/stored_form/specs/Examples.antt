@@ -1,6 +1,6 @@
 -- Worked examples of what reading comes to, by computation: stored bytes of each sort, and each refusal with each thing that may be at fault.
 use Rattle.std.specs.Prelude.{◌≡◌, refl, not, ℕ, take}
-use mathlib.Core.List.{List, [], ◌∷◌, ◌++◌, map, flat_map}
+use mathlib.Core.List.{List, [], ◌∷◌, ◌++◌, flat_map}
 use Rattle.kinds.specs.Kinds.{width}
 use Rattle.scan.specs.Front.{begins, after_one, after_all, is_nil}
 use Rattle.words.specs.Words.{same_word}

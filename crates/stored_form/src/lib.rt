@@ -13,7 +13,7 @@ pub const NUMBER_TAG: u8 = 3;
 
 // What a version of the form has of its own: the byte that names it, how many bytes a count has, the largest count, and how many bytes there may
 // be in all.
-#[derive(Drop)]
+#[derive(Clone, Copy)]
 pub struct Version {
     pub number: u8,
     pub width: usize,

@@ -1,21 +1,19 @@
 -- Worked examples of moves, by computation: both ways, each refusal with each thing that may be at fault, and which of two comes first.
 use Rattle.std.specs.Prelude.{◌≡◌, refl, ℕ, length, take}
-use mathlib.Core.List.{List, [], ◌∷◌, ◌++◌, flat_map}
+use mathlib.Core.List.{List, [], ◌∷◌, flat_map}
 use Rattle.kinds.specs.Kinds.{width}
 use Rattle.scan.specs.Front.{begins, after_one, after_all, is_nil}
 use Rattle.words.specs.Words.{same_word}
 use Rattle.lists.specs.Lists.{every}
 use Rattle.number.specs.Lexeme.{is_named, is_digits, is_exponent, is_decimal, is_unsigned, is_lexeme}
-use Rattle.store.specs.Rows.{Row, Span, row, span, cell, firsts, rows_in, spans_in, flat_rows, flat_spans, zeros, padded}
-use Rattle.store.specs.Answers.{filled, used_rows, used_spans}
-use Rattle.store.specs.Answers as outcome
+use Rattle.store.specs.Rows.{row, span, cell, firsts, rows_in, spans_in, flat_rows, flat_spans, zeros, padded}
+use Rattle.store.specs.Answers.{used_rows, used_spans}
 use Rattle.tree.specs.Tree.{rows_with}
 use Rattle.tree.specs.TreeIn.{on_front, as_a, times, find_text, find_row, exactly_one, at_most_one, find_parts, find_node, whole}
 use Rattle.shape.specs.Numbers.{are_numbers}
 use Rattle.shape.specs.Store.{are_whole, tree_of, well_formed}
 use Rattle.fields.specs.Counts.{count_bytes, count_after}
 use Rattle.fields.specs.Fields.{field, length_in, is_field, is_sized}
-use Rattle.stored_form.specs.declared.Version.{Version}
 use Rattle.stored_form.specs.Form.{version1, version2, head_field, node_field, number_field, stored_rows, fits_rows, stored_of}
 use Rattle.stored_form.specs.Reading.{is_other_version, head_in, fields_from, place_after, roomed, checked, reading_of}
 use Rattle.stored_moves.specs.Moving.{Moving, moved, refused, moving_of, move_answer, store_left, bytes_left}
