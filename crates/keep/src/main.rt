@@ -4,9 +4,8 @@
 
 use console::{INPUT_BYTES, INPUT_LIMIT, is_over, read_input};
 use expected::{NO_EXPECTATION, expected_of};
-use libc::STDOUT_FILENO;
 use messages::complain;
-use printing::least;
+use printing::{STDOUT_FILENO, least};
 use refusals::TEXT_TOO_LONG;
 use store::{NODE_WIDTH, NUMBER_WIDTH};
 

@@ -4,9 +4,8 @@
 #![tactic(auto)]
 
 use expected::NO_EXPECTATION;
-use libc::STDIN_FILENO;
 use messages::complain;
-use printing::{flush, least};
+use printing::{STDIN_FILENO, flush, least};
 use refusals::TEXT_TOO_LONG;
 use row_lines::put_lines;
 use store::{NODE_WIDTH, NUMBER_WIDTH, ReadAnswer};

@@ -4,8 +4,7 @@
 #![tactic(auto)]
 
 use console::{NODE_PLACES, NUMBER_PLACES, U32_BYTES, u32_at};
-use libc::STDIN_FILENO;
-use printing::{flush, least, put};
+use printing::{STDIN_FILENO, flush, least, put};
 use row_lines::list;
 
 const INPUT_BYTES: usize = 524_288;

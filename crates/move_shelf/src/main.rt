@@ -4,10 +4,10 @@
 #![tactic(auto)]
 
 use expected::NO_EXPECTATION;
-use libc::{STDERR_FILENO, STDIN_FILENO, STDOUT_FILENO};
 use messages::complain;
-use printing::least;
+use printing::{STDERR_FILENO, STDIN_FILENO, STDOUT_FILENO, least};
 use refusals::TEXT_TOO_LONG;
+use std::env;
 use store::{NODE_WIDTH, NUMBER_WIDTH};
 use stored_moves::MoveAnswer;
 
@@ -37,22 +37,19 @@ enum Way {
     Unknown,
 }
 
-// The word after the program's name; one that is missing or too long has no bytes.
-fn word_after_name() -> Way {
-    let mut word = [0u8; 4];
-    let count = os::arg(1, &mut word);
-    if (count == 2) & (word[0] == b'u') & (word[1] == b'p') {
-        return Way::Up;
+// What the word after the program's name says.
+fn word_after_name(rt: &HostRuntime) -> Way {
+    let Ok(mut words) = env::args(rt) else {
+        return Way::Unknown;
+    };
+    let Some(word) = words.nth(1) else {
+        return Way::Unknown;
+    };
+    match word.as_str() {
+        "up" => Way::Up,
+        "back" => Way::Back,
+        _ => Way::Unknown,
     }
-    if (count == 4)
-        & (word[0] == b'b')
-        & (word[1] == b'a')
-        & (word[2] == b'c')
-        & (word[3] == b'k')
-    {
-        return Way::Back;
-    }
-    Way::Unknown
 }
 
 // More bytes than the program takes are refused as the reader refuses more than its limit.
@@ -81,6 +78,7 @@ fn tell(answer: MoveAnswer, moved: &[u8]) {
 
 // Moves the stored bytes that are the first `count` of the input.
 fn move_bytes(
+    rt: &HostRuntime,
     input: &[u8],
     count: usize,
     nodes: &mut [u32],
@@ -89,7 +87,7 @@ fn move_bytes(
 ) {
     let end = least(count, input.len());
     let bytes = &input[0..end];
-    match word_after_name() {
+    match word_after_name(rt) {
         Way::Up => {
             let answer = stored::move_1_to_2(bytes, nodes, numbers, moved);
             tell(answer, moved);
@@ -106,19 +104,20 @@ fn move_bytes(
 
 // The buffers come as arrays, whose types tell their lengths: lent as slices, the proof of `main` would have to count them out.
 fn run(
+    rt: &HostRuntime,
     input: &mut [u8; INPUT_BYTES],
     nodes: &mut [u32; NODE_PLACES],
     numbers: &mut [u32; NUMBER_PLACES],
     moved: &mut [u8; OUTPUT_BYTES],
 ) {
     let count = io::read_full(STDIN_FILENO, input);
-    move_bytes(input, count, nodes, numbers, moved);
+    move_bytes(rt, input, count, nodes, numbers, moved);
 }
 
-fn main() {
+fn main(rt: HostRuntime) {
     let mut input = [0u8; INPUT_BYTES];
     let mut nodes = [0u32; NODE_PLACES];
     let mut numbers = [0u32; NUMBER_PLACES];
     let mut moved = [0u8; OUTPUT_BYTES];
-    run(&mut input, &mut nodes, &mut numbers, &mut moved);
+    run(&rt, &mut input, &mut nodes, &mut numbers, &mut moved);
 }

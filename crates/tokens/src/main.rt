@@ -10,8 +10,7 @@ mod ways;
 
 ghost use Rattle.std.specs.Prelude.{◌≤◌, ◌<◌, length};
 
-use libc::STDIN_FILENO;
-use printing::{flush, least, put};
+use printing::{STDIN_FILENO, flush, least, put};
 use shown_tokens::put_found;
 use token::Found;
 use tokenizer::Cursor;
