@@ -1,8 +1,8 @@
 -- The first fault is what the rules say, node by node.
 -- Assumes nothing.
-use mathlib.Core.Path.{◌≡◌, refl, ap, ◌∙◌}
+use mathlib.Core.Path.{◌≡◌, refl, ap}
 use mathlib.Core.Bool.{Bool, true, false, cond}
-use mathlib.Core.List.{List, [], ◌∷◌, ◌++◌}
+use mathlib.Core.List.{List, [], ◌∷◌}
 use Prim.Native.Nat.{ℕ}
 use lib.Dec.{eqb}
 use Rattle.lists.specs.Lists.{All}
@@ -12,7 +12,7 @@ use Rattle.nodes.specs.declared.Met.TheVariants.{Node, End, Done, Ill}
 use Rattle.strict.specs.declared.StrictAnswer.{StrictAnswer}
 use Rattle.strict.specs.Rules.{letter_a, letter_b, letter_c, letter_d, no_letter, fails_a, fails_b, fails_c, fails_d, fault}
 use Rattle.strict.specs.Strict.{answer, first_fault}
-use Rattle.strict.specs.Outcome.{RulesHold, RulesHoldAt, Lowest, a_fails, b_fails, c_fails, d_fails, Outcome, passes, fails}
+use Rattle.strict.specs.Outcome.{RulesHoldAt, a_fails, b_fails, c_fails, d_fails, Outcome, passes, fails}
 
 module _ (text numbers : List ℕ) where
   -- what is met before the nodes: an outcome of the others is one of all

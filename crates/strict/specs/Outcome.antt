@@ -1,5 +1,5 @@
 -- What an answer of the strict check says of the nodes (document 01, "Strict check"), rule by rule.
-use Rattle.std.specs.Prelude.{◌≡◌, true, false, List, [], ◌∷◌, ◌++◌, ℕ}
+use Rattle.std.specs.Prelude.{◌≡◌, true, false, List, ◌∷◌, ◌++◌, ℕ}
 use Rattle.lists.specs.Lists.{All}
 use Rattle.nodes.specs.declared.Visit.{Visit}
 use Rattle.nodes.specs.declared.Met.{Met}
