@@ -14,7 +14,7 @@ pub const INPUT_BYTES: usize = 1_048_576;
 pub const OUT_BYTES: usize = 65_536;
 
 // How far the input is answered.
-#[derive(Drop)]
+#[derive(Clone, Copy)]
 pub struct State {
     // The unread bytes of the input's buffer: from `from` on, before `have`.
     pub from: usize,
