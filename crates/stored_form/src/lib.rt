@@ -22,7 +22,7 @@ pub struct Version {
 }
 
 // Which version: the first, or the second, whose counts have more bytes.
-#[derive(Drop)]
+#[derive(Clone, Copy)]
 pub enum Edition {
     First,
     Second,

@@ -5,7 +5,7 @@ use mathlib.Core.Bool.{Bool, true, false, cond, ◌&&◌, false≢true}
 use mathlib.Core.List.{List, [], ◌∷◌}
 use Prim.Native.Nat.{ℕ, zero, suc, ◌+◌, ◌-◌, ◌≤◌, ◌<◌}
 use native.Mathlib.Omega.{arith}
-use lib.Dec.{leb, ltb}
+use lib.Dec.{ltb}
 use lib.ListN.{length, get_or, take, drop}
 use lib.Seq.{length-take-le}
 use borrow.Author.Tests.{le-leb, lt-ltb}
@@ -13,7 +13,7 @@ use Rattle.scan.specs.Bytes.{is_digit, is_sign, is_point}
 use Rattle.number.specs.Lexeme.{is_plain}
 use Rattle.number.proofs.Equal.{sign_digit, sign_point}
 use Rattle.number.proofs.Plain.{pass, pass_plain, alone}
-use Rattle.stored_numbers.specs.Weights.{weight, weigh, sign_width}
+use Rattle.stored_numbers.specs.Weights.{weigh, sign_width}
 
 light : (points others n : ℕ) (l : List ℕ) → points + weigh l ≤ 1 → pass false points others n l ≡ ltb (others + weigh l) n
 unfolding pass weigh

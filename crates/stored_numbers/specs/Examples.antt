@@ -1,5 +1,5 @@
 -- Worked examples of what number fields come to, by computation: each way to be faulty, each sort of text, and texts of sixteen bytes and more.
-use Rattle.std.specs.Prelude.{◌≡◌, refl, true, false, List, [], ◌∷◌, ◌++◌, ℕ, length, take}
+use Rattle.std.specs.Prelude.{◌≡◌, refl, true, false, List, [], ◌∷◌, ℕ, length, take}
 use Rattle.lists.specs.Lists.{every}
 use Rattle.scan.specs.Text as text
 use Rattle.scan.specs.Front.{begins, after_one, after_all, is_nil}
@@ -8,7 +8,6 @@ use Rattle.number.specs.Lexeme.{is_named, is_digits, is_exponent, is_decimal, is
 use Rattle.fields.specs.Counts.{count_after}
 use Rattle.fields.specs.Fields.{length_in, is_field}
 use Rattle.stored_form.specs.Reading.{fields_from}
-use Rattle.stored_form.specs.declared.Seen.{Seen}
 use Rattle.stored_form.specs.declared.Seen.TheVariants.{Faulty, Whole}
 use Rattle.stored_numbers.specs.Looks.{numbers_seen}
 

@@ -14,11 +14,11 @@ use borrow.Author.Tests.{eqb-true, eq-eqb, le-leb, lt-ltb, ltb-false, not-false}
 use Rattle.limits.specs.Limits.{depth_limit}
 use Rattle.lists.specs.Lists.{every, All}
 use Rattle.store.specs.Rows.{Row, Span, flat_rows, flat_spans}
-use Rattle.store.specs.Answers.{filled, refused}
+use Rattle.store.specs.Answers.{filled}
 use Rattle.tree.specs.Tree.{Tree, rows, texts}
 use Rattle.tree.specs.TreeIn.{span_text, span_texts}
 use Rattle.tree.proofs.Parts.{parts_fit}
-use Rattle.shape.specs.Store.{tree_of, well_formed}
+use Rattle.shape.specs.Store.{tree_of}
 use Rattle.shape.proofs.Stores.{grown, store_tree}
 use Rattle.shape.proofs.Slices.{Own, own_spans, flat_rows_law}
 use Rattle.fields.specs.Counts.{byte, IsByte, count_in, count_bytes}
@@ -27,10 +27,9 @@ use Rattle.fields.proofs.Counts.{all_take, all_drop, count_bound, bytes_of_count
 use Rattle.fields.proofs.Fields.{is_there, has_tag, has_room, sized_field}
 use Rattle.stored_form.specs.declared.Version.{Version}
 use Rattle.stored_form.specs.declared.Counts.{Counts}
-use Rattle.stored_form.specs.declared.Head.{Head}
 use Rattle.stored_form.specs.declared.Head.TheVariants as head
-use Rattle.stored_form.specs.Form.{Known, head_tag, node_tag, number_tag, head_size, node_size, head_field, node_field, number_field, stored_rows, first_node, node_place, stored_bytes, fits_tree}
-use Rattle.stored_form.specs.Reading.{version_at, is_other_version, nodes_told, numbers_told, counts_read, head_in, Run, faulty, whole, row_told, node_after, nodes_from, span_told, numbers_from, place_after, roomed, checked, after_nodes, after_numbers, after_head, reading_of}
+use Rattle.stored_form.specs.Form.{Known, head_tag, node_tag, number_tag, head_size, node_size, head_field, node_field, number_field, stored_rows, first_node, stored_bytes, fits_tree}
+use Rattle.stored_form.specs.Reading.{version_at, is_other_version, nodes_told, numbers_told, counts_read, head_in, whole, row_told, node_after, nodes_from, span_told, numbers_from, reading_of}
 use Rattle.stored_form.proofs.Runs.{whole_one, no_field, first, fields_count}
 use Rattle.stored_form.proofs.Fits.{FitsEach, each_fits}
 use Rattle.stored_reading.proofs.Accepts.{accepts}

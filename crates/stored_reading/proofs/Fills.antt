@@ -3,20 +3,19 @@
 use mathlib.Core.Path.{◌≡◌, refl, ap, sym, ◌∙◌}
 use mathlib.Core.Bool.{true}
 use mathlib.Core.List.{List, [], ◌∷◌, ◌++◌}
-use Prim.Native.Nat.{ℕ, suc, ◌+◌, ◌-◌, ◌*◌, ◌%◌, ◌^◌, ◌≤◌, ◌<◌}
+use Prim.Native.Nat.{ℕ, suc, ◌+◌, ◌-◌, ◌%◌, ◌^◌, ◌≤◌, ◌<◌}
 use native.Mathlib.Omega.{arith}
 use native.Mathlib.Nat.{sub-zero}
 use lib.ListN.{length, get_or, take, drop}
-use Rattle.store.specs.Rows.{Row, Span, node_width, number_width, node_room, number_room, places_of, firsts, rows_in, spans_in, put_row, put_span, flat_rows, flat_spans, padded, cleared}
+use Rattle.store.specs.Rows.{node_width, number_width, node_room, number_room, places_of, firsts, rows_in, spans_in, put_row, put_span, flat_rows, flat_spans, cleared}
 use Rattle.store.proofs.Cells.{places_some}
 use Rattle.store.proofs.Rows.{rows_cleared, rows_put, put_row_length, spans_cleared, spans_put, put_span_length}
 use Rattle.fields.specs.Counts.{byte, count_in}
 use Rattle.fields.specs.Fields.{head_length, length_in, content_end, is_field, is_sized}
 use Rattle.fields.proofs.Counts.{count_read}
 use Rattle.fields.proofs.Fields.{has_room, sized_field}
-use Rattle.fields.proofs.Looks.{length_read}
 use Rattle.stored_form.specs.Form.{node_tag, number_tag, node_size}
-use Rattle.stored_form.specs.Reading.{Run, whole, row_told, node_after, nodes_from, span_told, numbers_from, place_after, Right}
+use Rattle.stored_form.specs.Reading.{whole, row_told, node_after, nodes_from, span_told, numbers_from, place_after, Right}
 use Rattle.stored_reading.specs.Looks.{Filled}
 use Rattle.stored_form.proofs.Runs.{whole_one, Telling, telling_begins, telling_right, telling_on, telling_ends, first}
 

@@ -1,9 +1,9 @@
 -- Laws of the head: each of its tests, and what it tells.
 -- Assumes nothing.
-use mathlib.Core.Path.{◌≡◌, refl, sym, ap, ◌∙◌}
+use mathlib.Core.Path.{◌≡◌, refl}
 use mathlib.Core.Bool.{Bool, true, false, cond, not, ◌&&◌}
 use mathlib.Core.List.{List}
-use Prim.Native.Nat.{ℕ, ◌+◌, ◌-◌, ◌*◌, ◌%◌, ◌^◌, ◌≤◌, ◌<◌}
+use Prim.Native.Nat.{ℕ, ◌+◌, ◌-◌, ◌%◌, ◌^◌, ◌≤◌, ◌<◌}
 use native.Mathlib.Omega.{arith}
 use lib.Dec.{eqb, ltb}
 use lib.ListN.{length, get_or, take, drop}
@@ -17,7 +17,7 @@ use Rattle.stored_form.specs.declared.Version.{Version}
 use Rattle.stored_form.specs.declared.Counts.{Counts}
 use Rattle.stored_form.specs.declared.Head.TheVariants.{Told, Refused}
 use Rattle.stored_form.specs.Form.{Known, head_tag, head_size, first_node}
-use Rattle.stored_form.specs.Reading.{version_at, counts_at, is_other_version, nodes_told, numbers_told, counts_read, head_in}
+use Rattle.stored_form.specs.Reading.{version_at, counts_at, is_other_version, counts_read, head_in}
 use Rattle.stored_reading.specs.Looks.{Headed}
 
 -- a head of the right length lies in the bytes

@@ -6,7 +6,7 @@ use mathlib.Core.List.{List, [], ◌∷◌}
 use Prim.Native.Nat.{ℕ, zero, suc, ◌+◌, ◌*◌, ◌≤◌, ◌<◌}
 use native.Mathlib.Omega.{arith}
 use native.Mathlib.Nat.{suc-mul, mul-le-mul_right}
-use lib.Dec.{leb, ltb}
+use lib.Dec.{ltb}
 use lib.ListN.{length}
 use borrow.Author.Tests.{lt-ltb, le-ltb, le-leb}
 use Rattle.lists.specs.Lists.{every, All}
@@ -21,8 +21,8 @@ use Rattle.nodes.specs.Nodes.{above, meets}
 use Rattle.shape.specs.Numbers.{is_number}
 use Rattle.shape.specs.Store.{well_formed}
 use Rattle.shape.proofs.Slices.{Own, well_by_rows}
-use Rattle.fields.specs.Fields.{head_length, length_in, content_end, content_in, is_field, is_sized}
-use Rattle.fields.proofs.Fields.{has_room, sized_field}
+use Rattle.fields.specs.Fields.{head_length, length_in, content_end, is_field, is_sized}
+use Rattle.fields.proofs.Fields.{has_room}
 use Rattle.stored_form.specs.declared.Version.{Version}
 use Rattle.stored_form.specs.declared.Counts.{Counts}
 use Rattle.stored_form.specs.declared.Head.TheVariants as head
