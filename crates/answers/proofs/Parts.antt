@@ -2,12 +2,9 @@
 -- Assumes nothing.
 use mathlib.Core.Path.{◌≡◌, refl, sym, ap, ◌∙◌}
 use mathlib.Core.Bool.{Bool, true, false, false≢true, cond}
-use mathlib.Core.List.{List, [], ◌∷◌}
-use mathlib.Core.Logic.{inl, inr}
+use mathlib.Core.List.{List}
 use Prim.Native.Nat.{ℕ, ◌+◌, ◌≤◌, ◌<◌}
 use native.Mathlib.Omega.{arith}
-use denote.Enum.Declared.{tag_of}
-use types.Run.{OneOf}
 use lib.Dec.{eqb, ltb}
 use borrow.Author.Tests.{eq-eqb, ne_eqb, lt-ltb, le-ltb, ltb-true, ltb-false}
 use Rattle.lists.proofs.Cases.{either}
@@ -33,14 +30,12 @@ use Rattle.sorts.proofs.Tokens.{Takes, takes, asks}
 use Rattle.answers.specs.declared.State.{State}
 use Rattle.answers.specs.declared.Spot.{Spot}
 use Rattle.answers.specs.declared.Answer.{Answer}
-use Rattle.answers.specs.contracts.Answer.{the_type}
 use Rattle.answers.specs.declared.Answer.TheVariants.{Read, Refused, Stopped}
 use Rattle.answers.specs.Reading.{spot, is_read, ended_nodes, not_closed_at, closed_at, closed_nodes, after_refusal, row_for, used_by, got_of, end_of, Met}
 
--- in the arm of all answers that were not read the code knows one of two tags
-pub not_read : (a : Answer) → OneOf (1 ∷ 2 ∷ []) (tag_of the_type a) → is_read a ≡ false
-not_read (Read s) (inl e) = absurd (omega (arith, e))
-not_read (Read s) (inr e) = absurd (omega (arith, e))
+-- in the arm of all answers that were not read the code knows that the answer is no `Read`
+pub not_read : (a : Answer) → ((s : Spot) → a ≡ Read s → ⊥) → is_read a ≡ false
+not_read (Read s) h = absurd (h s refl)
 not_read (Refused r c) h = refl
 not_read (Stopped r c) h = refl
 

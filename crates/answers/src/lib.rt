@@ -21,7 +21,7 @@ pub struct State {
 }
 
 // A state where nothing is held: a place is enough.
-#[derive(Drop)]
+#[derive(Clone, Copy)]
 pub struct Spot {
     pub at: usize,
     pub nodes: usize,

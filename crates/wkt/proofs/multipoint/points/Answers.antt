@@ -1,0 +1,47 @@
+-- `wkt::multipoint::points` meets its contract: points by commas are a list like any other.
+use mathlib.Core.Path.{◌∙◌}
+use native.Mathlib.Omega.{arith}
+use Rattle.answers.proofs.Parts.{not_read}
+use Rattle.answers.proofs.ByCommas.{list_first, list_few, list_more, list_less, list_last, list_lost}
+use Rattle.wkt.proofs.multipoint.points.Goals as goal
+
+pub loop-end-init : goal.loop-end-init
+loop-end-init c = list_first c.requires.0 c.requires.1
+
+pub point-got-requires : goal.point-got-requires
+point-got-requires c = c.loop-end.invariant.fits
+
+pub shape_of-nodes-in_default : goal.shape_of-nodes-in_default
+shape_of-nodes-in_default c = c.point-got.auto.nodes ∙ c.loop-end.invariant.same_n
+
+pub shape_of-numbers-in_default : goal.shape_of-numbers-in_default
+shape_of-numbers-in_default c = c.point-got.auto.numbers ∙ c.loop-end.invariant.same_m
+
+pub returns-in_default : goal.returns-in_default
+returns-in_default c =
+    let v = c.loop-end.invariant in
+    list_lost v c.point-got.ensures (not_read c.point-got.result c.in_default.not-Read) c.after_refusal.ensures
+
+pub overflow_add-parts : goal.overflow_add-parts
+overflow_add-parts c = omega (arith, list_few c.loop-end.invariant)
+
+pub loop-end-smaller : goal.loop-end-smaller
+loop-end-smaller c =
+    let v = c.loop-end.invariant in
+    list_less v c.point-got.ensures c.in-Read.is c.after_part-passed.ensures c.if-passed.true c.moved-here.ensures
+
+pub loop-end-preserved : goal.loop-end-preserved
+loop-end-preserved c =
+    let v = c.loop-end.invariant in
+    list_more v c.point-got.ensures c.in-Read.is c.after_part-passed.ensures c.if-passed.true c.moved-here.ensures c.point-got.auto.nodes c.point-got.auto.numbers
+
+pub shape_of-nodes-else-passed : goal.shape_of-nodes-else-passed
+shape_of-nodes-else-passed c = c.closing.auto.nodes ∙ c.point-got.auto.nodes ∙ c.loop-end.invariant.same_n
+
+pub shape_of-numbers-else-passed : goal.shape_of-numbers-else-passed
+shape_of-numbers-else-passed c = c.point-got.auto.numbers ∙ c.loop-end.invariant.same_m
+
+pub returns-else-passed : goal.returns-else-passed
+returns-else-passed c =
+    let v = c.loop-end.invariant in
+    list_last v c.point-got.ensures c.in-Read.is c.after_part-passed.ensures c.if-passed.false c.at_cursor.ensures c.closing.ensures.0 c.closing.ensures.1 c.point-got.auto.nodes
