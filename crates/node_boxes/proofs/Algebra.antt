@@ -2,13 +2,12 @@
 -- Assumes nothing.
 use mathlib.Core.Path.{◌≡◌, refl, sym, ◌∙◌}
 use mathlib.Core.Bool.{Bool, true, false, false≢true, cond, not}
-use Prim.Native.Nat.{ℕ}
 use native.Mathlib.Omega.{arith}
 use borrow.Author.Tests.{ltb-true, le-ltb}
 use lib.Dec.{T}
 use lib.IntN.{ℤ, pos, negsuc, neg_ℤ}
 use lib.Signed.{lt_z, lt_z_yes, lt_z_no, <ℤ-≤ℤ_trans}
-use Rattle.bounds.specs.Bounds.{Bounds, lower, higher, box, merge, edge, nothing}
+use Rattle.bounds.specs.Bounds.{Bounds, lower, higher, merge, edge, nothing}
 
 -- ---- the order, by its test
 told : (b : Bool) → b ≡ true → T b

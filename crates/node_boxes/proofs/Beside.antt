@@ -4,9 +4,9 @@ use mathlib.Core.Path.{◌≡◌, refl, ap, ap₂, sym, ◌∙◌, subst}
 use mathlib.Core.Bool.{Bool, true, false, cond}
 use mathlib.Core.List.Memᴰ
 use mathlib.Core.List.{List, [], ◌∷◌, ◌++◌, map, flat_map, Memᴰ}
-use Prim.Native.Nat.{ℕ, zero, suc, ◌+◌, ◌-◌, ◌*◌, ◌/◌, ◌≤◌, ◌<◌}
+use Prim.Native.Nat.{ℕ, zero, suc, ◌+◌, ◌-◌, ◌*◌, ◌≤◌, ◌<◌}
 use native.Mathlib.Omega.{arith}
-use borrow.Author.Tests.{lt-ltb, le-ltb, ltb-true, ltb-false}
+use borrow.Author.Tests.{ltb-false}
 use lib.Dec.{ltb}
 use lib.IntN.{ℤ, pos}
 use lib.ListN.{length, drop, get_or, length-append, get_or-append, get_or-map}
@@ -24,7 +24,7 @@ use Rattle.bounds.specs.Bounds.{BoxRow, no_box, box_width, box_room, five_of, bo
 use Rattle.node_boxes.specs.Boxes.{box_around, point_coords, line_coords, polygon_coords, node_coords, no_coords, coords, leaf_boxes, nest_boxes, point_boxes, polygon_boxes, node_boxes, no_boxes, boxes}
 use Rattle.node_boxes.specs.Holds.{LiesIn, leaf_own, nest_own, point_own, polygon_own, node_own, no_own, each_coords, row_at, InParent}
 use Rattle.node_boxes.proofs.Trees.{as_many, many_line, many_polygon, many_leaf}
-use Rattle.node_boxes.proofs.Holds.{box_none, part_of, part_inside, inside_self}
+use Rattle.node_boxes.proofs.Holds.{box_none, part_inside, inside_self}
 
 -- ---- each row is the box around its node's coordinates
 map_append : (a b : List (List Coord)) → map box_around (a ++ b) ≡ map box_around a ++ map box_around b

@@ -1,22 +1,20 @@
 -- The first offence of coordinates is that of the first of them whose X or Y offends; and where none offends, each has its sides.
 -- Assumes nothing.
-use mathlib.Core.Path.{◌≡◌, refl, ap, ap₂, sym, ◌∙◌, subst}
-use mathlib.Core.Bool.{Bool, true, false, false≢true, cond}
+use mathlib.Core.Path.{◌≡◌, refl, ap, sym, ◌∙◌, subst}
+use mathlib.Core.Bool.{Bool, true, false, cond}
 use mathlib.Core.Logic.{⊎_elim}
 use mathlib.Core.List.Memᴰ
 use mathlib.Core.List.{List, [], ◌∷◌, ◌++◌, flat_map, append-nil, Memᴰ}
-use Prim.Native.Nat.{ℕ, zero, suc, ◌+◌, ◌≤◌}
+use Prim.Native.Nat.{ℕ, ◌+◌, ◌≤◌}
 use native.Mathlib.Omega.{arith}
-use borrow.Author.Tests.{eq-eqb, ne_eqb}
-use lib.Dec.{eqb}
+use borrow.Author.Tests.{ne_eqb}
 use lib.ListN.{length, length-append}
 use Rattle.lists.specs.Lists.{All}
-use Rattle.refusals.specs.Refusals.{no_finite_number, number_too_large}
 use Rattle.scan.specs.Bytes.{is_sign}
 use Rattle.scan.specs.Front.{after_one}
 use Rattle.number.specs.Lexeme.{is_named, is_lexeme}
 use Rattle.store.specs.Rows.{span_start_at}
-use Rattle.tree.specs.Tree.{Coord, Tree, Lexeme, coord_texts, texts, GoodTree}
+use Rattle.tree.specs.Tree.{Coord, Tree, Lexeme, coord_texts, GoodTree}
 use Rattle.rounding.specs.declared.Reckoned.TheVariants.{Sides, Named, Beyond, NoNumber}
 use Rattle.decimal.specs.Decimal.{written}
 use Rattle.decimal.specs.Units.{low, high, is_far, is_large}
@@ -160,7 +158,7 @@ module _ (numbers : List ℕ) where
 -- of each of the coordinates
 pub all_mem : {A : Type 0} (Q : A → Type 0) (l : List A) → All Q l → (a : A) → Memᴰ a l → Q a
 unfolding All
-all_mem Q [] h a m = absurd (Memᴰ.not_nil m)
+all_mem Q [] h a m = absurd (Memᴰ.not-nil m)
 all_mem Q (b ∷ l) h a m = ⊎_elim (λ e. subst Q (sym e) h.0) (λ n. all_mem Q l h.1 a n) (Memᴰ.cases_cons m)
 
 clean_sides : (l : List ℕ) → Lexeme l → Clean l → is_sides (reckoned l) ≡ true

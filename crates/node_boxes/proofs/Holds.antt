@@ -2,20 +2,19 @@
 -- Assumes nothing.
 use mathlib.Core.Path.{◌≡◌, refl, ap, ap₂, sym, ◌∙◌, subst}
 use mathlib.Core.Bool.{Bool, true, false, false≢true, cond, not}
-use mathlib.Core.Logic.{◌↔◌, ⊎_elim}
+use mathlib.Core.Logic.{⊎_elim}
 use mathlib.Core.List.Memᴰ
-use mathlib.Core.List.{List, [], ◌∷◌, ◌++◌, map, flat_map, Memᴰ}
+use mathlib.Core.List.{List, [], ◌∷◌, map, flat_map, Memᴰ}
 use Prim.Native.Nat.{ℕ}
 use native.Mathlib.Omega.{arith}
 use native.Mathlib.Nat.{le_trans}
 use borrow.Author.Tests.{le-ltb}
 use lib.Dec.{T, leb→le, le→leb}
-use lib.IntN.{ℤ, pos, negsuc, ◌+ℤ◌, ◌-ℤ◌, ◌*ℤ◌}
-use lib.Signed.{lt_z, le_z, ◌≤ℤ◌, ◌<ℤ◌, lt_z_no, ≤ℤ_refl}
+use lib.IntN.{ℤ, pos, negsuc, ◌+ℤ◌, ◌-ℤ◌}
+use lib.Signed.{lt_z, le_z, ◌≤ℤ◌, lt_z_no, ≤ℤ_refl}
 use Rattle.tree.specs.Tree.{Coord}
-use Rattle.rounding.specs.declared.Reckoned.{Reckoned}
 use Rattle.decimal.specs.Decimal.{denominator, written}
-use Rattle.decimal.specs.Units.{low, high, exact_units}
+use Rattle.decimal.specs.Units.{low, high}
 use Rattle.decimal.specs.Reckon.{reckoned}
 use Rattle.decimal.specs.Spellings.{is_sides}
 use Rattle.decimal.proofs.Bounds.{times_le, low_below, high_above, low_near, high_near}
@@ -23,7 +22,7 @@ use Rattle.decimal.proofs.Spellings.{its_sides, same_reckoned}
 use Rattle.bounds.proofs.Boxes as laws
 use Rattle.bounds.specs.Bounds.{BoxRow, box_row, lower, higher, no_box}
 use Rattle.node_boxes.specs.Boxes.{x_text, y_text, low_in, high_in, low_x, high_x, low_y, high_y, lowest, highest, box_around}
-use Rattle.node_boxes.specs.Holds.{AtMost, AtLeast, Less, More, Placed, Holds, HoldsEach, Near, NearEach, Inside, LiesIn, SameText, itself, spelt, Alike, AlikeEach}
+use Rattle.node_boxes.specs.Holds.{AtMost, AtLeast, Less, More, Placed, HoldsEach, NearEach, LiesIn, SameText, itself, spelt, Alike, AlikeEach}
 use Rattle.node_boxes.proofs.Algebra.{not_less, not_both}
 
 -- ---- the order
@@ -92,7 +91,7 @@ module _ (f : Coord → ℤ) where
 
   lowest_each : (a : ℤ) (cs : List Coord) (c : Coord) → Memᴰ c cs → lt_z (f c) (lowest a (map f cs)) ≡ false
   unfolding lowest
-  lowest_each a [] c m = absurd (Memᴰ.not_nil m)
+  lowest_each a [] c m = absurd (Memᴰ.not-nil m)
   lowest_each a (d ∷ cs) c m =
       ⊎_elim
       (λ e. ap (λ z. lt_z (f z) (lowest (lower a (f d)) (map f cs))) e ∙ not_less (lowest (lower a (f d)) (map f cs)) (lower a (f d)) (f d) (lowest_start (lower a (f d)) cs) (lower_second a (f d)))
@@ -106,7 +105,7 @@ module _ (f : Coord → ℤ) where
 
   highest_each : (a : ℤ) (cs : List Coord) (c : Coord) → Memᴰ c cs → lt_z (highest a (map f cs)) (f c) ≡ false
   unfolding highest
-  highest_each a [] c m = absurd (Memᴰ.not_nil m)
+  highest_each a [] c m = absurd (Memᴰ.not-nil m)
   highest_each a (d ∷ cs) c m =
       ⊎_elim
       (λ e. ap (λ z. lt_z (highest (higher a (f d)) (map f cs)) (f z)) e ∙ not_less (f d) (higher a (f d)) (highest (higher a (f d)) (map f cs)) (higher_second a (f d)) (highest_start (higher a (f d)) cs))
@@ -172,7 +171,7 @@ module _ (l : List ℕ) (e : is_sides (reckoned l) ≡ true) where
 -- ---- "so the box holds the shape"
 pub box_holds : (cs : List Coord) → ((c : Coord) → Memᴰ c cs → Placed c) → HoldsEach cs (box_around cs)
 unfolding box_around
-box_holds [] p c m = absurd (Memᴰ.not_nil m)
+box_holds [] p c m = absurd (Memᴰ.not-nil m)
 box_holds (b ∷ cs) p c m = record {
   left = low_holds (x_text c) (p c m).x (lowest (low_x b) (map low_x cs)) (lowest_all low_x b cs c m);
   right = high_holds (x_text c) (p c m).x (highest (high_x b) (map high_x cs)) (highest_all high_x b cs c m);
@@ -216,7 +215,7 @@ some_of cs h e = let z : (box_around []).first ≡ pos 1 = rw e at h in no_one z
 pub box_inside : (ds cs : List Coord) → ((c : Coord) → Memᴰ c ds → Memᴰ c cs) → LiesIn (box_around ds) (box_around cs)
 unfolding box_around
 box_inside [] cs m h = absurd (false≢true (ap (λ (w : ℤ). lt_z (pos 0) w) h))
-box_inside (d ∷ ds) [] m h = absurd (Memᴰ.not_nil (m d (Memᴰ.head refl)))
+box_inside (d ∷ ds) [] m h = absurd (Memᴰ.not-nil (m d (Memᴰ.head refl)))
 box_inside (d ∷ ds) (c ∷ cs) m h =
     let l = lowest_reached low_x d ds in
     let r = highest_reached high_x d ds in
@@ -237,7 +236,7 @@ inside_self r h = (h, record { left = ≤ℤ_refl r.bounds.left; right = ≤ℤ_
 -- the coordinates of a part are among those of all parts
 pub part_of : {X : Type 0} (co : X → List Coord) (x : X) (xs : List X) → Memᴰ x xs → (c : Coord) → Memᴰ c (co x) → Memᴰ c (flat_map co xs)
 unfolding flat_map
-part_of co x [] m c n = absurd (Memᴰ.not_nil m)
+part_of co x [] m c n = absurd (Memᴰ.not-nil m)
 part_of co x (y ∷ xs) m c n =
     ⊎_elim
     (λ e. Memᴰ.append_left (flat_map co xs) (subst (λ z. Memᴰ c (co z)) e n))

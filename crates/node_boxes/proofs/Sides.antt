@@ -1,7 +1,7 @@
 -- The box of a coordinate lies inside the edges, and no side of it is past the other.
 -- Assumes nothing.
 use mathlib.Core.Path.{◌≡◌, refl}
-use mathlib.Core.Bool.{Bool, true, false}
+use mathlib.Core.Bool.{true, false}
 use mathlib.Core.List.{List}
 use Prim.Native.Nat.{ℕ}
 use native.Mathlib.Omega.{arith}
@@ -11,7 +11,6 @@ use lib.IntN.{ℤ, pos, negsuc, neg_ℤ}
 use lib.Signed.{lt_z, ◌≤ℤ◌}
 use Rattle.tree.specs.Tree.{Coord}
 use Rattle.rounding.specs.Rounding.{size_limit}
-use Rattle.rounding.specs.declared.Reckoned.{Reckoned}
 use Rattle.decimal.specs.Units.{low, high}
 use Rattle.decimal.specs.Reckon.{reckoned}
 use Rattle.decimal.proofs.Bounds.{low_range, high_range}

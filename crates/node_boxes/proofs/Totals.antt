@@ -1,9 +1,9 @@
 -- The box around coordinates, one after the other and all at once, and its row in the table.
 -- Assumes nothing.
 use mathlib.Core.Path.{◌≡◌, refl, ap, sym, ◌∙◌}
-use mathlib.Core.Bool.{Bool, true, false, cond}
+use mathlib.Core.Bool.{false, cond}
 use mathlib.Core.List.{List, [], ◌∷◌, ◌++◌, map}
-use lib.IntN.{ℤ, pos}
+use lib.IntN.{pos}
 use lib.Signed.{lt_z}
 use Rattle.tree.specs.Tree.{Coord}
 use Rattle.bounds.specs.Bounds.{Bounds, box, box_row, no_box, merge, nothing, done_row}

@@ -1,6 +1,6 @@
 -- A box beside each node, as the tree says it (request 2026-03): "a table with lowest and highest X and Y of each node's own and descendants' coordinates, in
 -- units of a ten-millionth".
-use Rattle.std.specs.Prelude.{◌≡◌, Bool, cond, ℕ, zero, suc, ◌+◌, eqb, ltb, ℤ, pos, length}
+use Rattle.std.specs.Prelude.{◌≡◌, cond, ℕ, zero, suc, ◌+◌, eqb, ltb, ℤ, pos, length}
 use Rattle.std.proofs.Common.{sym, ◌∙◌}
 use Rattle.std.proofs.Math.Option.{Option, none, some}
 use mathlib.Core.List.{List, [], ◌∷◌, map, flat_map}
