@@ -3,7 +3,7 @@
 use mathlib.Core.Path.{◌≡◌, refl, ap, sym, ◌∙◌}
 use mathlib.Core.Bool.{Bool, true, false, false≢true, cond, ◌&&◌, ◌||◌}
 use mathlib.Core.List.{List, [], ◌∷◌, ◌++◌, map, flat_map}
-use Prim.Native.Nat.{ℕ, ◌+◌, ◌-◌, ◌*◌, ◌^◌, ◌≤◌, ◌<◌}
+use Prim.Native.Nat.{ℕ, ◌+◌, ◌*◌, ◌^◌, ◌≤◌, ◌<◌}
 use native.Mathlib.Omega.{arith}
 use native.Mathlib.Nat.{mul-le-mul_left, zero-mul, suc-mul}
 use native.Mathlib.Decide.{dec_lt}
@@ -20,7 +20,7 @@ use Rattle.fields.specs.Fields.{head_length, longest, field}
 use Rattle.fields.proofs.Counts.{bytes_length}
 use Rattle.fields.proofs.Fields.{field_length}
 use Rattle.stored_form.specs.declared.Version.{Version}
-use Rattle.stored_form.specs.Form.{head_tag, node_tag, number_tag, head_size, node_size, head_field, node_field, number_field, stored_rows, first_node, node_place, fits_rows}
+use Rattle.stored_form.specs.Form.{head_tag, node_tag, number_tag, node_size, head_field, node_field, number_field, stored_rows, first_node, node_place, fits_rows}
 use Rattle.stored_writing.specs.Writing.{lengths_in, fields_length, numbers_measure, measure_of}
 
 -- ---- a text at a time

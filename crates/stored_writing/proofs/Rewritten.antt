@@ -17,7 +17,7 @@ use Rattle.store.specs.Answers.{bytes, refusal}
 use Rattle.store.proofs.Rows.{rows_length}
 use Rattle.tree.proofs.Parts.{parts_fit}
 use Rattle.shape.specs.Store.{all_rows, all_texts}
-use Rattle.shape.proofs.Stores.{texts_count, Grown, grown, StoreTree, store_tree}
+use Rattle.shape.proofs.Stores.{texts_count, grown, store_tree}
 use Rattle.pen.specs.declared.Pen.{Pen}
 use Rattle.pen.specs.Pen.{Puts, Emits}
 use Rattle.pen.proofs.Puts.{emits}
