@@ -20,7 +20,6 @@ use Rattle.walk.proofs.Stack.{firsts_cut, firsts_past}
 use Rattle.shape.specs.Store.{well_formed}
 use Rattle.fields.specs.Fields.{head_length, content_end, is_field, is_sized}
 use Rattle.stored_form.specs.declared.Version.{Version}
-use Rattle.stored_form.specs.declared.Head.TheVariants as head
 use Rattle.stored_form.specs.Form.{head_tag, node_tag, number_tag, head_size, node_size, first_node, node_place}
 use Rattle.stored_form.specs.Reading.{version_at, is_other_version, head_in, faulty, whole, before, fields_from, row_told, node_after, nodes_from, span_told, numbers_from, place_after, roomed, checked, after_nodes, after_numbers, reading_of}
 use Rattle.stored.specs.Faults.{OtherVersion, node_count, number_count, number_place, rows_told, spans_told, Ours, HasHead, HasNodes, HasNumbers, HasFields, HasTree, Fault, too_long, other_version, bad_head, bad_node, bad_number_law, extra, no_tree, no_node_row_law, no_number_row_law, Reads, accepts, refuses}

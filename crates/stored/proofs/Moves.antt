@@ -1,7 +1,7 @@
 -- A move is one of a tree: what is read is its stored bytes in the one version, and what is written its stored bytes in the other. And stored bytes of a tree in two versions
 -- differ in length by their heads and nodes alone.
 -- Assumes nothing.
-use mathlib.Core.Path.{◌≡◌, refl, ap, ap₂, sym, ◌∙◌}
+use mathlib.Core.Path.{◌≡◌, refl, ap, ◌∙◌}
 use mathlib.Core.Bool.{Bool, true, false, cond}
 use mathlib.Core.Option.{some}
 use mathlib.Core.List.{List}
@@ -11,24 +11,20 @@ use lib.Dec.{leb}
 use lib.ListN.{length}
 use borrow.Author.Tests.{le-leb, leb-true, leb-false}
 use Rattle.limits.specs.Limits.{depth_limit}
-use Rattle.lists.specs.Lists.{All}
 use Rattle.refusals.specs.Refusals.{no_room, does_not_fit}
 use Rattle.store.specs.Rows.{Row, Span, flat_rows, flat_spans}
 use Rattle.store.specs.Answers.{Outcome, filled, Output, bytes, refusal}
 use Rattle.store.specs.Answers as outcome
 use Rattle.tree.specs.Tree.{Tree, GoodTree, rows, texts}
-use Rattle.tree.specs.TreeIn.{span_texts}
 use Rattle.shape.specs.Store.{tree_of}
-use Rattle.shape.proofs.Stores.{store_tree}
-use Rattle.fields.specs.Counts.{IsByte}
 use Rattle.stored_form.specs.declared.Version.{Version}
 use Rattle.stored_form.specs.Form.{Known, stored_rows, node_place, stored_bytes, fits_tree, stored_tree, stored_of}
 use Rattle.stored_form.specs.Reading.{reading_of}
 use Rattle.stored_moves.specs.Moving.{Moving, moved, refused, after_writing, moving_of}
 use Rattle.stored_moves.proofs.Comes.{after_reading_law, after_writing_law}
 use Rattle.stored_writing.proofs.Measures.{stored_length}
-use Rattle.stored_reading.proofs.Accepted.{ReadTree, accepted_tree, accepted_stored}
-use Rattle.stored.proofs.Back.{ReadBack, stored_back}
+use Rattle.stored_reading.proofs.Accepted.{ReadTree, accepted_tree}
+use Rattle.stored.proofs.Back.{stored_back}
 
 -- ---- lengths
 pub versions_length : (v w : Version) (rs : List Row) (ns : List (List ℕ)) → length (stored_rows w rs ns) + node_place v.width (length rs) ≡ length (stored_rows v rs ns) + node_place w.width (length rs)
