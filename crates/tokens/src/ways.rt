@@ -8,14 +8,14 @@ use token_reader::{look_from, next_from, nth, peek_from, take_from};
 use tokenizer::{Cursor, Step};
 
 // Which of three is shown: a look, another, and what is taken after both.
-#[derive(Drop)]
+#[derive(Clone, Copy)]
 pub(crate) enum Look {
     First,
     Second,
     Taken,
 }
 
-#[derive(Drop)]
+#[derive(Clone, Copy)]
 pub(crate) enum Way {
     // By a reader that is lent: taken, or looked at twice and then taken.
     Next,
