@@ -13,7 +13,7 @@ use token::Refusal;
 use tokenizer::{Cursor, Passed};
 
 // The cursor that a reader stands at, and how many rows are used.
-#[derive(Drop)]
+#[derive(Clone, Copy)]
 pub struct State {
     pub cursor: Cursor,
     pub nodes: usize,
@@ -30,7 +30,7 @@ pub struct Spot {
 
 // What reading a part came to. Behind what was read nothing is held; after `Refused` the closing token is still taken, from
 // the cursor; `Stopped` ends the reading at once.
-#[derive(Drop)]
+#[derive(Clone, Copy)]
 pub enum Answer {
     Read(Spot),
     Refused(Refusal, Cursor),

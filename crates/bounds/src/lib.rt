@@ -22,7 +22,7 @@ pub const EDGE: i64 = 1000000000000000000;
 pub const NO_EDGE: i64 = -1000000000000000000;
 
 // What the boxes answer: a refusal's number and place, or zeros.
-#[derive(Drop)]
+#[derive(Clone, Copy)]
 pub struct BoxAnswer {
     pub number: u32,
     pub place: usize,

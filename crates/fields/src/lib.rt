@@ -29,7 +29,7 @@ const FOUR: usize = 4;
 const THREE_BYTES: u32 = 16_777_216;
 
 // Where a field's content ends; or that no such field is there.
-#[derive(Drop)]
+#[derive(Clone, Copy)]
 pub enum Found {
     Whole(usize),
     Faulty,

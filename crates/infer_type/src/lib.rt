@@ -18,7 +18,7 @@ const LAST_ASCII: u8 = 0x7F;
 const SPACE: [u8; 1] = *b" ";
 
 // What a text is found to be, with number and place 0; or the number and the place of its refusal, with zeros after them.
-#[derive(Drop)]
+#[derive(Clone, Copy)]
 pub struct Inferred {
     pub number: u32,
     pub place: usize,

@@ -46,7 +46,7 @@ const LINEARRING: [u8; 10] = *b"LINEARRING";
 pub const EMPTY: [u8; 5] = *b"EMPTY";
 
 // What a word means.
-#[derive(Drop)]
+#[derive(Clone, Copy)]
 pub enum Name {
     Unknown,
     // A kind's name alone: a header may follow.
@@ -56,14 +56,14 @@ pub enum Name {
 }
 
 // The dimension of an ending.
-#[derive(Drop)]
+#[derive(Clone, Copy)]
 pub enum Ending {
     Is(u32),
     No,
 }
 
 // The name that a word begins with: its kind and its length.
-#[derive(Drop)]
+#[derive(Clone, Copy)]
 pub enum Front {
     Begun(u32, usize),
     Other,

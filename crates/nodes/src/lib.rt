@@ -38,7 +38,7 @@ pub struct Visit {
 
 // What a walk meets: a node; the end of a node that has child rows, by its row and by how many rows it and all that is under it took; that
 // all rows and numbers were passed, and are a tree; or that they are none.
-#[derive(Drop)]
+#[derive(Clone, Copy)]
 pub enum Met {
     Node(Visit),
     End(usize, usize),

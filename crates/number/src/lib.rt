@@ -10,7 +10,7 @@ use scan::{after_point, after_sign, digits_end, is_digit, is_sign, is_stop, toke
 use words::same_word;
 
 // Whether a number's text is good, and the place of the blank, mark or end at which it stops.
-#[derive(Drop)]
+#[derive(Clone, Copy)]
 pub struct Lexeme {
     pub good: bool,
     pub end: usize,

@@ -9,7 +9,7 @@ ghost use Rattle.pen.specs.Pen.{Puts};
 use store::WriteAnswer;
 
 // How many bytes stand, and whether a piece had no room. A full pen puts nothing more.
-#[derive(Drop)]
+#[derive(Clone, Copy)]
 pub struct Pen {
     pub at: usize,
     pub full: bool,

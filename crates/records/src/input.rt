@@ -28,7 +28,7 @@ pub struct State {
 }
 
 // What stands at the front of the unread bytes.
-#[derive(Drop)]
+#[derive(Clone, Copy)]
 pub enum Front {
     // A whole record: what follows its count, from the one place on, before the other.
     Whole(usize, usize),

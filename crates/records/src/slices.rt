@@ -14,7 +14,7 @@ const AFTER_LENGTHS: usize = 2 * U32_BYTES;
 
 // What a record says of its slices: whether they fit and a text that isn't too long stands behind; the places of the nodes and of the numbers; and
 // where the text starts. All is 0 where they don't fit.
-#[derive(Drop)]
+#[derive(Clone, Copy)]
 pub struct Slices {
     pub fit: bool,
     pub nodes: usize,

@@ -9,7 +9,7 @@ ghost use Rattle.rounding.specs.Rounding.{size_limit, outward, low_of, high_of, 
 pub const SIZE_LIMIT: u64 = 100000000000000000;
 
 // What a number's text comes to: the whole units below and above it; a word for what no digits say; a decimal beyond the limits; or no number's text.
-#[derive(Drop)]
+#[derive(Clone, Copy)]
 pub enum Reckoned {
     Sides(i64, i64),
     Named,

@@ -10,7 +10,7 @@ pub const NODE_WIDTH: usize = 3;
 pub const NUMBER_WIDTH: usize = 2;
 
 // What a reader into a store answers: the counts of the used rows, with number and place 0; or a refusal's number and place, with zeros after them.
-#[derive(Drop)]
+#[derive(Clone, Copy)]
 pub struct ReadAnswer {
     pub number: u32,
     pub place: usize,
@@ -19,7 +19,7 @@ pub struct ReadAnswer {
 }
 
 // What a writer of a store answers: how many bytes it wrote, with number and place 0; or a refusal's number and place, with a zero after them.
-#[derive(Drop)]
+#[derive(Clone, Copy)]
 pub struct WriteAnswer {
     pub number: u32,
     pub place: usize,

@@ -29,21 +29,21 @@ pub enum Edition {
 }
 
 // How many nodes and how many numbers the head tells of.
-#[derive(Drop)]
+#[derive(Clone, Copy)]
 pub struct Counts {
     pub nodes: usize,
     pub numbers: usize,
 }
 
 // What the head comes to: counts, or a refusal's number and place.
-#[derive(Drop)]
+#[derive(Clone, Copy)]
 pub enum Head {
     Told(Counts),
     Refused(u32, usize),
 }
 
 // What a run of fields comes to: the place of the first that is faulty; or whether what they hold is well formed, and the place after them.
-#[derive(Drop)]
+#[derive(Clone, Copy)]
 pub enum Seen {
     Faulty(usize),
     Whole(bool, usize),

@@ -4,7 +4,7 @@
 
 // How many bytes were written, and how many rows of the lent store are used, with number and place 0; or a refusal's number and place, with zeros after
 // them.
-#[derive(Drop)]
+#[derive(Clone, Copy)]
 pub struct MoveAnswer {
     pub number: u32,
     pub place: usize,

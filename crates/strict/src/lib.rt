@@ -21,7 +21,7 @@ const LINE_MIN: u32 = 2;
 const RING_MIN: u32 = 4;
 
 // The letter and the row of the first rule that fails, or zeros; or a refusal's number.
-#[derive(Drop)]
+#[derive(Clone, Copy)]
 pub struct StrictAnswer {
     pub number: u32,
     pub letter: u8,

@@ -49,7 +49,7 @@ pub struct Walk {
 
 // What comes next of a walk: a child of an open node, so that a row is wanted; the end of a node, by its row and how many rows it took, and the walk
 // after it; or nothing, as the root has ended.
-#[derive(Drop)]
+#[derive(Clone, Copy)]
 pub enum Coming {
     Child(Frame),
     End(usize, usize, Walk),
@@ -57,7 +57,7 @@ pub enum Coming {
 }
 
 // What comes of a row that is given: the walk after it, or that it is ill where the walk stands.
-#[derive(Drop)]
+#[derive(Clone, Copy)]
 pub enum Entered {
     To(Walk),
     Ill,
@@ -71,7 +71,7 @@ enum Wanted {
 }
 
 // What a step met, and the walk after it. On `Done` and `Ill` the walk stays.
-#[derive(Drop)]
+#[derive(Clone, Copy)]
 pub struct Walked {
     pub met: Met,
     pub next: Walk,
