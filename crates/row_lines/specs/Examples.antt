@@ -5,7 +5,7 @@ use Rattle.scan.specs.Text.{bytes}
 use Rattle.store.specs.Rows.{cell}
 use Rattle.store.specs.declared.ReadAnswer.{ReadAnswer}
 use Rattle.printing.specs.Printing.{Buffer, buffer, has_room_at, put_in, put_all_in, places_from, decimal}
-use Rattle.row_lines.specs.Lines.{kept_text, lines_of, answer_line, listing_lines}
+use Rattle.row_lines.specs.Lines.{kept_text, lines_of, listing_lines}
 
 -- `POINT Z(1 2 +3)` as it is read
 text : List ℕ
