@@ -15,7 +15,7 @@ use Rattle.printing.specs.Printing.{Buffer, put_in, put_all_in}
 use Rattle.line_places.specs.Lines.{goes_on}
 use Rattle.explain.specs.declared.characters.Shown.{Shown}
 use Rattle.explain.specs.declared.characters.Shown.TheVariants.{Mark, Blank, Tab, WideBlank, Itself}
-use Rattle.explain.specs.Shown.{byte_at, is_wide, is_control, wide, control, blank_under, shown_for, piece_of, end_from, piece_at, pieces_from, pieces}
+use Rattle.explain.specs.Shown.{byte_at, is_wide, is_control, wide, control, blank_under, shown_for, piece_of, end_from, piece_at, pieces_from}
 
 module _ (l : List ℕ) (i : ℕ) where
   pub byte_in : i < length l → get_or l i 0 ≡ byte_at l i
