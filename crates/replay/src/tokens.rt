@@ -12,7 +12,7 @@ const PLACE: usize = FIRST;
 
 const COUNT: usize = SECOND;
 
-#[derive(Drop)]
+#[derive(Clone, Copy)]
 pub(crate) enum Asking {
     // Letter `t`.
     Take,
@@ -21,7 +21,7 @@ pub(crate) enum Asking {
 }
 
 // What was taken, whether each look before saw the same, and the cursor to go on with.
-#[derive(Drop)]
+#[derive(Clone, Copy)]
 struct Asked {
     found: Found,
     agreed: bool,
