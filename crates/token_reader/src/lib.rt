@@ -1,5 +1,6 @@
 // The token reader: a lent text and the place in it together, `Tokens` of the Rust's tokenizer.rs.
 // Each function over this struct is thin: it takes the struct apart and leaves the work to the cursor's own step.
+// Those that step or make a reader are proved by walks of their code, by hand: one argument for each kind, over the name of the function that is called.
 #![tactic(auto)]
 
 ghost use Rattle.std.specs.Prelude.{◌≡◌};
