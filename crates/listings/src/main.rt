@@ -41,11 +41,21 @@ fn list_all(
     flush(out, full);
 }
 
+// The buffers come as arrays, whose types tell their lengths: lent as slices, the proof of `main` would have to count them out.
+fn run(
+    input: &mut [u8; INPUT_BYTES],
+    nodes: &mut [u32; NODE_PLACES],
+    numbers: &mut [u32; NUMBER_PLACES],
+    out: &mut [u8; OUTPUT_BYTES],
+) {
+    let count = io::read_full(STDIN_FILENO, input);
+    list_all(&input[..count], nodes, numbers, out);
+}
+
 fn main() {
     let mut input = [0u8; INPUT_BYTES];
     let mut nodes = [0u32; NODE_PLACES];
     let mut numbers = [0u32; NUMBER_PLACES];
     let mut out = [0u8; OUTPUT_BYTES];
-    let count = io::read_full(STDIN_FILENO, &mut input);
-    list_all(&input[..count], &mut nodes, &mut numbers, &mut out);
+    run(&mut input, &mut nodes, &mut numbers, &mut out);
 }
