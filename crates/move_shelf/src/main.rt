@@ -7,7 +7,7 @@ use expected::NO_EXPECTATION;
 use messages::complain;
 use printing::{STDERR_FILENO, STDIN_FILENO, STDOUT_FILENO, least};
 use refusals::TEXT_TOO_LONG;
-use std::env;
+use std::env::Env;
 use store::{NODE_WIDTH, NUMBER_WIDTH};
 use stored_moves::MoveAnswer;
 
@@ -37,19 +37,22 @@ enum Way {
     Unknown,
 }
 
-// What the word after the program's name says.
+// The word after the program's name; one that is missing or too long has no bytes.
 fn word_after_name(rt: &HostRuntime) -> Way {
-    let Ok(mut words) = env::args(rt) else {
-        return Way::Unknown;
-    };
-    let Some(word) = words.nth(1) else {
-        return Way::Unknown;
-    };
-    match word.as_str() {
-        "up" => Way::Up,
-        "back" => Way::Back,
-        _ => Way::Unknown,
+    let mut word = [0u8; 4];
+    let count = rt.arg(1, &mut word).unwrap_or(0);
+    if (count == 2) & (word[0] == b'u') & (word[1] == b'p') {
+        return Way::Up;
     }
+    if (count == 4)
+        & (word[0] == b'b')
+        & (word[1] == b'a')
+        & (word[2] == b'c')
+        & (word[3] == b'k')
+    {
+        return Way::Back;
+    }
+    Way::Unknown
 }
 
 // More bytes than the program takes are refused as the reader refuses more than its limit.
