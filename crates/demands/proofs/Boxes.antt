@@ -2,25 +2,24 @@
 -- Assumes nothing.
 use mathlib.Core.Path.{◌≡◌, refl, ap, sym, ◌∙◌, subst}
 use mathlib.Core.Bool.{Bool, true, false, false≢true, cond}
-use mathlib.Core.Logic.{◌↔◌, ◌⊎◌, inl, inr}
+use mathlib.Core.Logic.{inl, inr}
 use mathlib.Core.Option.{Option, none, some, some-injective}
 use mathlib.Core.List.{List, [], ◌∷◌, flat_map}
-use Prim.Native.Nat.{ℕ, zero, suc, ◌-◌, ◌*◌, ◌≤◌, ◌<◌}
+use Prim.Native.Nat.{ℕ, ◌-◌, ◌*◌, ◌≤◌}
 use native.Mathlib.Omega.{arith}
-use borrow.Author.Tests.{ltb-true, ltb-false, eq-eqb, ne_eqb}
-use lib.Dec.{eqb, ltb}
+use borrow.Author.Tests.{ltb-true, ltb-false, ne_eqb}
+use lib.Dec.{ltb}
 use lib.IntN.{ℤ, pos}
 use lib.ListN.{length, drop, get_or}
 use Rattle.lists.specs.Lists.{All}
 use Rattle.lists.specs.Options.{is_some}
 use Rattle.limits.specs.Limits.{depth_limit}
-use Rattle.refusals.specs.Refusals.{ill_formed_store, no_room, no_finite_number, number_too_large}
+use Rattle.refusals.specs.Refusals.{ill_formed_store, no_room}
 use Rattle.store.specs.Rows.{node_room}
 use Rattle.tree.specs.Tree.{Coord, Tree, rows}
 use Rattle.shape.specs.Store.{tree_of, well_formed, walk_root}
 use Rattle.shape.proofs.Stores.{store_tree, is_well_formed}
 use Rattle.shape.proofs.Slices.{node_count_law}
-use Rattle.nodes.specs.declared.Met.{Met}
 use Rattle.bounds.specs.declared.BoxAnswer.{BoxAnswer}
 use Rattle.bounds.specs.Bounds.{BoxRow, no_box, box_width, box_room, five_of, zeros, padded, box_answer}
 use Rattle.node_boxes.specs.Boxes as def

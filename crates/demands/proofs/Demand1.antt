@@ -9,7 +9,7 @@ use Prim.Native.Nat.{ℕ, ◌+◌, ◌-◌, ◌≤◌, ◌<◌}
 use native.Mathlib.Omega.{arith}
 use lib.Dec.{eqb, leb}
 use lib.ListN.{length}
-use borrow.Author.Tests.{eqb-true, eqb-false, leb-true, leb-false}
+use borrow.Author.Tests.{eqb-true, leb-true, leb-false}
 use Rattle.limits.specs.Limits.{text_limit, over_limit, depth_limit}
 use Rattle.scan.proofs.Bytes.{or_elim}
 use Rattle.utf8.specs.Utf8.{is_utf8, first_ill}

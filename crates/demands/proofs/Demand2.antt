@@ -11,7 +11,6 @@ use Rattle.limits.specs.Limits.{depth_limit}
 use Rattle.scan.specs.Text.{bytes}
 use Rattle.number.specs.Grammar.{Float}
 use Rattle.number.proofs.Equal.{sound}
-use Rattle.lists.specs.Lists.{every}
 use Rattle.token_stream.proofs.Bridge.{toks_lex}
 use Rattle.store.specs.Rows.{Row, Span, span, node_width, number_width, node_room, number_room, cell, parts_at, span_start_at, flat_rows, flat_spans, zeros, padded}
 use Rattle.lists.specs.Lists.{All}

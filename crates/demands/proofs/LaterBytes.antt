@@ -1,34 +1,29 @@
 -- Later bytes change nothing: a root that isn't EMPTY ends in a `)` of the text, and the reading doesn't look behind it.
 -- Assumes nothing.
 use mathlib.Core.Path.{◌≡◌, refl, ap, sym, subst, ◌∙◌}
-use mathlib.Core.Bool.{Bool, true, false, cond}
-use mathlib.Core.Logic.{inl}
 use mathlib.Core.List.{List, [], ◌∷◌, ◌++◌}
-use Prim.Native.Nat.{ℕ, ◌+◌, ◌-◌}
+use Prim.Native.Nat.{ℕ, ◌+◌}
 use native.Mathlib.Omega.{arith}
 use native.Mathlib.Numerals.{add-one}
 use lib.ListN.{length, take, drop}
 use lib.Seq.{split_at, length-take-le}
 use Rattle.limits.specs.Limits.{depth_limit}
 use Rattle.scan.specs.Bytes.{paren_close}
-use Rattle.store.specs.Rows.{Row, Span, node_room, number_room, parts_at, flat_rows, flat_spans, padded}
+use Rattle.store.specs.Rows.{Row, Span, node_room, number_room, parts_at, flat_rows, padded}
 use Rattle.store.proofs.Rows.{no_row_parts, first_parts}
 use Rattle.token_stream.specs.Stream.{open_tk, close_tk, comma_tk, none_tk, bad_tk, word_tk, number_tk, Tok, tok, Str, hd, tl, tok_in}
 use Rattle.token.specs.Tokens.{read_at}
 use Rattle.token_stream.specs.Lex.{lex}
 use Rattle.token_stream.proofs.Each.{Toks, hd_all, tl_all, toks_all}
 use Rattle.token_stream.proofs.Bridge.{toks_lex}
-use Rattle.grammar.specs.Answers.{Passes}
 use Rattle.grammar.specs.Asks.{P, ret, ask, look}
 use Rattle.grammar.specs.Grammar.{out, ok, root}
 use Rattle.grammar.specs.Tokens.{sort_close, sort_of, place_of}
 use Rattle.grammar.specs.Reading.{enough, reading}
 use Rattle.grammar.specs.LastToken.{last_of, last_token, root_parts}
 use Rattle.grammar_laws.proofs.After.{after_root, ends_closed}
-use Rattle.store.specs.declared.ReadAnswer.{ReadAnswer}
-use Rattle.demands.specs.Calls.{Read, used_nodes, used_numbers}
 use Rattle.demands.specs.Faults.{ByteAt, Starts}
-use Rattle.demands.specs.LaterBytes.{Ends, LaterBytes}
+use Rattle.demands.specs.LaterBytes.{LaterBytes}
 use Rattle.demands.proofs.Calls.{accepts, left, its_nodes, its_numbers}
 use Rattle.demands.proofs.Faults.{read_starts}
 

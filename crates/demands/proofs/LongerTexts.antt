@@ -2,14 +2,14 @@
 -- Assumes nothing.
 use mathlib.Core.Path.{◌≡◌, ap, sym, ◌∙◌}
 use mathlib.Core.Bool.{false}
-use mathlib.Core.List.{List, []}
-use Prim.Native.Nat.{ℕ, ◌-◌, ◌≤◌, ◌<◌}
+use mathlib.Core.List.{List}
+use Prim.Native.Nat.{ℕ, ◌≤◌, ◌<◌}
 use native.Mathlib.Omega.{arith}
 use lib.Dec.{ltb}
 use lib.ListN.{length}
 use borrow.Author.Tests.{le-ltb, lt-ltb, ltb-true}
 use Rattle.limits.specs.Limits.{text_limit, over_limit}
-use Rattle.store.specs.Rows.{node_room, number_room, zeros, padded}
+use Rattle.store.specs.Rows.{node_room, number_room}
 use Rattle.store.specs.declared.ReadAnswer.{ReadAnswer}
 use Rattle.grammar.specs.Grammar.{refused, refusal}
 use Rattle.grammar.specs.Refused.{too_long}

@@ -3,9 +3,8 @@
 -- Assumes nothing.
 use mathlib.Core.Path.{◌≡◌, refl, ap, ap₂, sym, ◌∙◌}
 use mathlib.Core.Bool.{Bool, true, false, false≢true, ◌&&◌}
-use mathlib.Core.Logic.{◌↔◌}
 use mathlib.Core.List.{List, [], ◌∷◌, ◌++◌}
-use Prim.Native.Nat.{ℕ, ◌+◌, ◌*◌, ◌≤◌, ◌<◌}
+use Prim.Native.Nat.{ℕ, ◌+◌, ◌≤◌, ◌<◌}
 use native.Mathlib.Decide.{dec_lt}
 use native.Mathlib.Nat.{mul-le-mul_right}
 use native.Mathlib.Omega.{arith}
@@ -16,9 +15,8 @@ use borrow.Author.Tests.{le-leb, leb-true, leb-false}
 use Rattle.limits.specs.Limits.{depth_limit}
 use Rattle.lists.specs.Lists.{every, All}
 use Rattle.lists.proofs.Lists.{every_head, every_tail, every_weaker}
-use Rattle.refusals.specs.Refusals.{no_room, does_not_fit}
 use Rattle.store.specs.declared.ReadAnswer.{ReadAnswer}
-use Rattle.store.specs.Rows.{Row, Span, node_room, number_room, flat_rows, flat_spans, zeros, padded}
+use Rattle.store.specs.Rows.{Row, Span, node_room, number_room, flat_rows, flat_spans, padded}
 use Rattle.store.proofs.Rows.{rows_length}
 use Rattle.store.specs.Answers.{filled, bytes, Leaves, Writes, wrote}
 use Rattle.store.specs.Answers as outcome
@@ -26,7 +24,7 @@ use Rattle.tree.specs.Tree.{Tree, GoodTree, rows, texts}
 use Rattle.tree.specs.TreeIn.{span_text}
 use Rattle.shape.specs.Store.{all_rows, all_texts, tree_of}
 use Rattle.shape.proofs.Stores.{texts_count, StoreTree, store_tree}
-use Rattle.shape.proofs.Slices.{used_rows_law, used_spans_law, node_count_law, text_count}
+use Rattle.shape.proofs.Slices.{node_count_law, text_count}
 use Rattle.fields.specs.Counts.{IsByte}
 use Rattle.fields.specs.Fields.{head_length, longest}
 use Rattle.stored_form.specs.declared.Version.{Version}
@@ -42,10 +40,10 @@ use Rattle.stored.proofs.Back.{stored_back}
 use Rattle.stored.proofs.Moves.{versions_length, of_tree, Comes, unread, unfit, roomless, moves, comes, tree_moves}
 use Rattle.demands.specs.Calls.{used_nodes, used_numbers}
 use Rattle.demands.specs.Stored.{StoredRead, StoredWrite, store_fits, store_bytes}
-use Rattle.demands.specs.Moves.{moved_in, as_read, Unfit, many_nodes, many_numbers, many_parts, too_long, Wider, Move, OneMove, ReadAndWritten, LeftAsRead, AllZero, RefusedAllZero, MoveExactly, MoveRefuses, UnfitExactly, ShortTexts, MovedLength, AcceptsAllRead, FirstBytes, ThereAndBack, SameTree, ReadsTheSame, MovesWell, UpAcceptsAllRead, UpIsLonger, BackIsShorter}
+use Rattle.demands.specs.Moves.{moved_in, as_read, Unfit, many_nodes, many_numbers, many_parts, too_long, Wider, Move, OneMove, ReadAndWritten, LeftAsRead, AllZero, RefusedAllZero, MoveExactly, MoveRefuses, UnfitExactly, ShortTexts, MovedLength, AcceptsAllRead, ThereAndBack, ReadsTheSame, MovesWell, UpAcceptsAllRead, UpIsLonger, BackIsShorter}
 use Rattle.demands.proofs.Demand1.{all_zero}
 use Rattle.demands.proofs.Versions.{every_inside}
-use Rattle.demands.proofs.Stored.{refused_reading, left, its_nodes, its_numbers, its_tree, its_store, accepted_call, stored_reads_back, stored_same}
+use Rattle.demands.proofs.Stored.{refused_reading, left, its_store, accepted_call, stored_reads_back, stored_same}
 
 -- ---- lists of which all passes, and of which not all does
 every_all : {A : Type 0} (p : A → Bool) (P : A → Type 0) → ((x : A) → p x ≡ true → P x) → (xs : List A) → every p xs ≡ true → All P xs

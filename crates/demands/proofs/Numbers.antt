@@ -1,15 +1,14 @@
 -- A call of `read` that answers 28 or 29 tells what is wrong with a bad number of the text, over the grammar.
 -- Assumes nothing.
-use mathlib.Core.Path.{◌≡◌, refl, sym, subst, ◌∙◌}
+use mathlib.Core.Path.{◌≡◌, refl, subst, ◌∙◌}
 use mathlib.Core.Bool.{true, false≢true}
 use mathlib.Core.List.{List}
 use Prim.Native.Nat.{ℕ}
-use Rattle.store.specs.Rows.{node_room, number_room}
 use Rattle.token.specs.declared.Refusal.{Refusal}
 use Rattle.token.specs.Tokens.{is_bad_number}
 use Rattle.token_stream.specs.Stream.{Tok, tok, bad_tk, Str, toks}
 use Rattle.demands.specs.Steps.{Stopping, no_node_row_law, no_bare_row, no_number_row_law, too_many}
-use Rattle.demands.specs.Faults.{AtFault, no_node, no_number, too_deep_law, bad_number_law, not_ascii, no_root_law, no_name_law, no_header_law, no_ending, not_opened_law, not_closed_law, no_x_law, no_y_law, no_z_law, no_m_law, no_child_law, Among, Starts, PlaceOf, over_limit_law, ill_formed, stopped, at_fault}
+use Rattle.demands.specs.Faults.{AtFault, no_node, no_number, too_deep_law, bad_number_law, not_ascii, no_root_law, no_name_law, no_header_law, no_ending, not_opened_law, not_closed_law, no_x_law, no_y_law, no_z_law, no_m_law, no_child_law, Among, PlaceOf, over_limit_law, ill_formed, stopped, at_fault}
 use Rattle.demands.specs.Numbers.{WhatIsWrong, SaysWhatIsWrong}
 use Rattle.demands.proofs.Faults.{tokens_start}
 use Rattle.demands.proofs.Demand1.{read_places_law}

@@ -1,32 +1,30 @@
 -- Half as many rows as bytes are enough: behind every node row, and behind every number row, two bytes of the text are passed.
 -- Assumes nothing.
-use mathlib.Core.Path.{◌≡◌, refl, ap, sym, subst, ◌∙◌}
+use mathlib.Core.Path.{◌≡◌, refl, ap, subst}
 use mathlib.Core.Bool.{Bool, true, false, false≢true, cond, ◌||◌}
-use mathlib.Core.Logic.{◌⊎◌, inl, inr}
 use mathlib.Core.List.{List, [], ◌∷◌, flat_map}
 use Prim.Native.Nat.{ℕ, zero, suc, ◌+◌, ◌*◌, ◌≤◌, ◌<◌}
 use native.Mathlib.Omega.{arith}
-use lib.Dec.{eqb, leb, ltb}
+use lib.Dec.{eqb, leb}
 use lib.ListN.{length, length-append}
 use borrow.Author.Tests.{eqb-true, leb-true}
 use Rattle.scan.specs.Bytes.{nul, paren_open, paren_close, plus, is_blank, is_stop, is_numberlike}
 use Rattle.number.specs.Lexeme.{is_lexeme}
-use Rattle.kinds.specs.Kinds.{kind_point, kind_line_string, kind_polygon, kind_multi_point, kind_multi_line_string, kind_multi_polygon, kind_geometry_collection, has_z, has_m, width}
+use Rattle.kinds.specs.Kinds.{kind_line_string, kind_polygon, kind_multi_point, kind_multi_line_string, kind_multi_polygon, width}
 use Rattle.lists.specs.Lists.{every}
 use Rattle.lists.proofs.Cases.{either}
 use Rattle.lists.proofs.Lists.{every_head, every_tail, every_mem}
 use Rattle.words.proofs.Words.{same_length}
-use Rattle.names.specs.declared.Name.{Name}
-use Rattle.names.specs.Names.{spellings, meaning, is_empty_word}
+use Rattle.names.specs.Names.{spellings, meaning}
 use Rattle.names.specs.Table.{is_known}
 use Rattle.names.proofs.Table.{means_spelled}
 use Rattle.store.proofs.Rows.{close_in_length}
 use Rattle.token.specs.declared.Refusal.{Refusal}
-use Rattle.token_stream.specs.Stream.{Tk, open_tk, close_tk, comma_tk, none_tk, bad_tk, word_tk, number_tk, Tok, tok, Str, end, then, hd, tl, toks}
+use Rattle.token_stream.specs.Stream.{Tk, open_tk, close_tk, comma_tk, none_tk, Tok, tok, Str, end, then, hd, tl, toks}
 use Rattle.token_stream.specs.Lex.{mark_tk, number_token, run_tk, Lexed, lexed, flush, push, lex_byte, lex_run, lex}
 use Rattle.token_stream.proofs.Bridge.{toks_lex}
 use Rattle.grammar.specs.Grammar.{Out, out, fill, is_empty_tok}
-use Rattle.grammar.specs.Tokens.{sort_none, sort_open, sort_close, sort_comma, sort_number, sort_word, tk_sort, tk_text, sort_of, place_of, text_of}
+use Rattle.grammar.specs.Tokens.{sort_none, sort_number, sort_word, tk_sort, sort_of, place_of, text_of}
 use Rattle.grammar_laws.proofs.Tokens.{ToksIn, hd_in, tl_in, place_in, place_before, lex_in}
 use Rattle.demands.specs.Steps.{Open, node, Due, root_due, part_due, header_due, paren_due, number_due, read_whole, NameDue, of_root, of_child, Child, child_ring, child_line, child_polygon, child_point, Axis, axis_x, axis_y, axis_z, axis_m, Came, begins, named_bare, named_joined, ending_taken, flat, nameless, paren_taken, empty_taken, point_begun, coord_begun, number_taken, coord_read, comma_taken, close_taken, parts_filled, one_of, Stopping, Refusing, no_node_row_law, no_bare_row, no_number_row_law, too_many, at_root, at_child, at_header, at_paren, at_number, at_closing, behind_refused, stands}
 use Rattle.demands.specs.Faults.{later, PlaceOf, over_limit_law, ill_formed, stopped, at_fault}

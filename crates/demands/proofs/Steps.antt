@@ -1,13 +1,13 @@
 -- Every refusal of a reading comes from a step that was due, at a token that can be at fault for its number: one induction over the grammar.
 -- Assumes nothing.
-use mathlib.Core.Path.{◌≡◌, refl, ap, sym, subst, ◌∙◌}
+use mathlib.Core.Path.{◌≡◌, refl, ap, subst}
 use mathlib.Core.Bool.{Bool, true, false, false≢true, cond, ◌||◌}
 use mathlib.Core.Logic.{inl, inr}
 use mathlib.Core.List.{List, [], ◌∷◌}
 use Prim.Native.Nat.{ℕ, zero, suc, ◌+◌, ◌≤◌, ◌<◌}
 use native.Mathlib.Nat.{not-suc-le-zero}
 use native.Mathlib.Omega.{arith}
-use lib.Dec.{eqb, leb, ltb}
+use lib.Dec.{eqb, ltb}
 use lib.ListN.{length, length-append}
 use borrow.Author.Tests.{eqb-true, eqb-false, leb-true, ltb-true, ltb-false}
 use Rattle.limits.specs.Limits.{depth_limit}
@@ -18,17 +18,16 @@ use Rattle.kinds.specs.Kinds.{kind_point, kind_line_string, kind_polygon, kind_m
 use Rattle.lists.specs.Lists.{every}
 use Rattle.lists.proofs.Cases.{either, and_both}
 use Rattle.names.specs.Names.{meaning, ending, is_empty_word}
-use Rattle.store.specs.Rows.{close_in}
 use Rattle.store.proofs.Rows.{close_in_length}
 use Rattle.token.specs.declared.Refusal.{Refusal}
 use Rattle.token.specs.Tokens.{is_bad_number}
 use Rattle.token_stream.specs.Stream.{open_tk, close_tk, comma_tk, none_tk, bad_tk, word_tk, number_tk, Tok, tok, Str, end, then, hd, tl, size}
 use Rattle.token_stream.proofs.Stream.{size_tl}
-use Rattle.grammar.specs.Asks.{P, ret, ask, look, bind, Ran, ran, run}
+use Rattle.grammar.specs.Asks.{P, bind, Ran, ran, run}
 use Rattle.grammar.specs.Tokens.{sort_bad, sort_open, sort_close, sort_comma, sort_number, sort_word, sort_of, place_of, start_of, text_of, refusal_at}
 use Rattle.grammar.specs.Grammar.{Out, out, Got, ok, refused, halt, Head, opens, empty, wrong, refusal, and_then, fill, rows_used, items, closing, add_node, add_number, number, then_number, if_asked, coord, point_body, opened, is_empty_tok, opening, opener, header_ending, header, by_name, child_head, root_head, line_body, parens, line_in, line_of, lines_body, polygon_in, polygon_of, polygons_body, point_in, bare_point, point_of, points_body, multi, simple, geometry_by, child_of, collection, geometry, root}
 use Rattle.grammar_laws.proofs.Asks.{after, run_bind, run_size}
-use Rattle.grammar_laws.proofs.WellRead.{is_kind, known_name, name_known}
+use Rattle.grammar_laws.proofs.WellRead.{is_kind, name_known}
 use Rattle.demands.specs.Steps.{Open, node, Due, root_due, part_due, header_due, paren_due, number_due, read_whole, NameDue, of_root, of_child, Child, child_ring, child_line, child_polygon, child_point, Axis, axis_x, axis_y, axis_z, axis_m, Came, begins, named_bare, named_joined, ending_taken, flat, nameless, paren_taken, empty_taken, point_begun, coord_begun, number_taken, coord_read, comma_taken, close_taken, parts_filled, collections, one_of, Stopping, Refusing, no_node_row_law, no_bare_row, no_number_row_law, too_many, at_root, at_child, at_header, at_paren, at_number, at_closing, behind_refused, stands}
 use Rattle.demands.specs.Faults.{Other, AtFault, no_node, no_number, too_deep_law, bad_number_law, not_ascii, no_root_law, no_name_law, no_header_law, no_ending, not_opened_law, not_closed_law, no_x_law, no_y_law, no_z_law, no_m_law, no_child_law, later, Among}
 

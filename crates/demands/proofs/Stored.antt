@@ -3,8 +3,8 @@
 use mathlib.Core.Path.{◌≡◌, refl, ap, sym, ◌∙◌}
 use mathlib.Core.Bool.{Bool, true, false, false≢true}
 use mathlib.Core.Option.{some}
-use mathlib.Core.List.{List, []}
-use Prim.Native.Nat.{ℕ, ◌-◌, ◌≤◌}
+use mathlib.Core.List.{List}
+use Prim.Native.Nat.{ℕ, ◌≤◌}
 use native.Mathlib.Omega.{arith}
 use lib.Dec.{leb}
 use lib.ListN.{length, length-map}
@@ -13,7 +13,7 @@ use Rattle.limits.specs.Limits.{depth_limit}
 use Rattle.refusals.specs.Refusals.{no_room, ill_formed_store, does_not_fit}
 use Rattle.store.specs.declared.ReadAnswer.{ReadAnswer}
 use Rattle.store.specs.declared.WriteAnswer.{WriteAnswer}
-use Rattle.store.specs.Rows.{Row, Span, node_room, number_room, flat_rows, flat_spans, zeros, padded}
+use Rattle.store.specs.Rows.{Row, Span, node_room, number_room, flat_rows, flat_spans, padded}
 use Rattle.store.specs.Answers as output
 use Rattle.store.specs.Answers.{Outcome, filled, refused, Output, refusal, Leaves, leaves_one, wrote, write_answer, room_after, writes_one}
 use Rattle.tree.specs.Tree.{Tree, rows, texts}

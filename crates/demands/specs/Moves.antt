@@ -4,7 +4,6 @@ use Rattle.std.specs.Prelude.{◌≡◌, true, false, ◌↔◌, List, ◌∷◌
 use Rattle.lists.specs.Lists.{All}
 use Rattle.refusals.specs.Refusals.{no_room, does_not_fit}
 use Rattle.store.specs.declared.ReadAnswer.{ReadAnswer}
-use Rattle.store.specs.declared.WriteAnswer.{WriteAnswer}
 use Rattle.store.specs.Rows.{Row, node_room, number_room, zeros, padded}
 use Rattle.store.specs.Answers.{wrote}
 use Rattle.shape.specs.Store.{all_rows, all_texts}

@@ -1,5 +1,5 @@
 -- The premises of request 2026-06's theorems are met, by computation: calls of both moves for `POINT(1 2)` that are not refused, and calls that are: by the reading side, with 27 and with 23.
-use Rattle.std.specs.Prelude.{◌≡◌, refl, ℕ, replicate}
+use Rattle.std.specs.Prelude.{refl, ℕ, replicate}
 use mathlib.Core.List.{List, [], ◌∷◌, ◌++◌, flat_map}
 use Rattle.std.proofs.Common.{arith}
 use Rattle.lists.specs.Lists.{every}

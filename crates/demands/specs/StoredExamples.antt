@@ -1,5 +1,5 @@
 -- The premises of request 2026-01's theorems are met, by computation: calls of both entries for `POINT(1 2)` that are not refused, from two texts; and refusals of both.
-use Rattle.std.specs.Prelude.{◌≡◌, refl, ℕ, replicate}
+use Rattle.std.specs.Prelude.{refl, ℕ, replicate}
 use mathlib.Core.List.{List, [], ◌∷◌, ◌++◌, flat_map}
 use Rattle.lists.specs.Lists.{every}
 use Rattle.scan.specs.Text as text
