@@ -24,14 +24,12 @@ pub fn line_start(text: &[u8]) -> usize
     ensures value { result ≡ line_start text.now (length text.now) }
     ensures upper_bound { result ≤ length text.now }
 {
-    let mut i = text.len();
-    while 0 < i {
-        if is_break(text[i - 1]) {
-            return i;
+    for i in (0..text.len()).rev() {
+        if is_break(text[i]) {
+            return i + 1;
         }
-        i -= 1;
     }
-    i
+    0
 }
 
 // Where the line that `place` stands in ends.
@@ -79,15 +77,13 @@ pub fn line_at(text: &[u8], number: usize) -> usize
     ensures upper_bound { result ≤ length text.now }
 {
     let mut left = number;
-    let mut i = 0;
-    while i < text.len() {
+    for (i, b) in text.iter().enumerate() {
         if left == 0 {
             return i;
         }
-        left -= breaks(text[i]);
-        i += 1;
+        left -= breaks(*b);
     }
-    i
+    text.len()
 }
 
 // Where `text` ends without the line ends behind it.
@@ -95,15 +91,12 @@ fn trimmed_end(text: &[u8]) -> usize
     ensures value { result ≡ trimmed text.now (length text.now) }
     ensures upper_bound { result ≤ length text.now }
 {
-    let mut i = text.len();
-    while 0 < i {
-        if is_break(text[i - 1]) {
-            i -= 1;
-        } else {
-            return i;
+    for i in (0..text.len()).rev() {
+        if !is_break(text[i]) {
+            return i + 1;
         }
     }
-    i
+    0
 }
 
 // The place that is shown: that of the text's end is behind its last line, as a line end there begins no line.
