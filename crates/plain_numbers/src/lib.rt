@@ -6,7 +6,7 @@ ghost use Rattle.std.specs.Prelude.{◌≡◌};
 ghost use Rattle.scan.specs.Runs.{after_one_at};
 ghost use Rattle.plain_numbers.specs.Plain.{is_minus, fraction_end, decimal_end, plain_at};
 
-use scan::{after_blank, digits_end, is_stop};
+use scan::{after_blank, after_one, digits_end, is_stop};
 
 // Where a plain number ends, and the place to read on from: both are where it was looked for if there is none.
 #[derive(Clone, Copy)]
@@ -19,10 +19,7 @@ pub struct Plain {
 fn after_minus(text: &[u8], at: usize) -> usize
     ensures { result ≡ after_one_at is_minus text.now at }
 {
-    if text.len() <= at {
-        return at;
-    }
-    if text[at] == b'-' { at + 1 } else { at }
+    after_one(text, at, |b| b == b'-')
 }
 
 // Where the point at `at` and the digits behind it end, or `at` where no point stands.
