@@ -3,9 +3,6 @@
 use Prim.Native.Nat.{ℕ}
 use mathlib.Core.Path.{◌≡◌, sym, ◌∙◌}
 use mathlib.Core.List.{List, [], ◌∷◌}
-use Rattle.lists.specs.One.{One}
-use Rattle.lists.proofs.One.{one}
-use Rattle.store.specs.Rows.{cleared}
 use Rattle.store.specs.declared.WriteAnswer.{WriteAnswer}
 use Rattle.store.specs.Answers.{refusal, Writes, writes_one}
 use Rattle.pen.specs.declared.Pen.{Pen}
@@ -20,9 +17,6 @@ put_byte_one x y = put_one x y
 
 pub put_led_one : {lead : ℕ} {piece out left left' : List ℕ} {p r r' : Pen} → Puts (lead ∷ piece) p out r left → Puts (lead ∷ piece) p out r' left' → (r ≡ r') × (left ≡ left')
 put_led_one x y = put_one x y
-
-pub clear_one : (out : List ℕ) (from : ℕ) → One (λ left. left ≡ cleared out from)
-clear_one out from = one
 
 pub refuse_one : {number room : ℕ} {r r' : WriteAnswer} {out out' : List ℕ} → Writes (refusal number) room r out → Writes (refusal number) room r' out' → (r ≡ r') × (out ≡ out')
 refuse_one x y = writes_one x y

@@ -2,7 +2,6 @@
 #![tactic(auto)]
 
 ghost use Rattle.std.specs.Prelude.{◌≡◌, [], ◌∷◌, length};
-ghost use Rattle.store.specs.Rows.{cleared};
 ghost use Rattle.store.specs.Answers.{refusal, Writes};
 ghost use Rattle.pen.specs.Pen.{Puts};
 
@@ -91,22 +90,11 @@ pub fn put_byte(out: &mut [u8], p: Pen, b: u8) -> Pen
     }
 }
 
-// Zeroes the slice from `from` on.
-pub fn clear(out: &mut [u8], from: usize)
-    ensures { out.new ≡ cleared out.old from }
-{
-    let mut i = from;
-    while i < out.len() {
-        out[i] = 0;
-        i += 1;
-    }
-}
-
 // A writer refuses: its room is zeroed.
 pub fn refuse(out: &mut [u8], number: u32) -> WriteAnswer
     ensures { Writes (refusal number) (length out.old) result out.new }
 {
-    clear(out, 0);
+    store::clear(out, 0);
     WriteAnswer {
         number,
         place: 0,

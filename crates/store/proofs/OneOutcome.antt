@@ -7,7 +7,7 @@ use Rattle.lists.specs.One.{One}
 use Rattle.lists.proofs.One.{one}
 use Rattle.store.specs.declared.ReadAnswer.{ReadAnswer}
 use Rattle.store.specs.Answers.{Accepts, refused, Leaves, leaves_one}
-use Rattle.store.specs.Rows.{node_width, number_width, node_room, number_room, places_of, open_row, close_row, put_row, put_span, cleared, kind_at, dimension_at, parts_at, node_column, span_start_at, span_length_at}
+use Rattle.store.specs.Rows.{node_width, number_width, node_room, number_room, places_of, open_row, close_row, put_row, put_span, cleared_to, kind_at, dimension_at, parts_at, node_column, span_start_at, span_length_at}
 
 module _ (slice : List ℕ) where
   pub node_room_one : One (λ r. r ≡ node_room slice)
@@ -22,8 +22,9 @@ module _ (slice : List ℕ) where
   pub number_places_one : (rows : ℕ) → One (λ r. r ≡ places_of number_width slice rows)
   number_places_one rows = one
 
-  pub clear_one : (from : ℕ) → One (λ left. left ≡ cleared slice from)
-  clear_one from = one
+-- of numbers of any type, whose zero is z
+pub clear_one : {A : Type 0} (z : A) (slice : List A) (from : ℕ) → One (λ left. left ≡ cleared_to z slice from)
+clear_one z slice from = one
 
 module _ (slice : List ℕ) (row : ℕ) where
   pub open_row_one : (kind dimension : ℕ) → One (λ left. left ≡ open_row slice row kind dimension)

@@ -2,7 +2,7 @@
 use Rattle.std.specs.Prelude.{◌≡◌, refl, ℕ, take}
 use mathlib.Core.List.{List, [], ◌∷◌, map, flat_map}
 use Rattle.store.specs.Answers.{Outcome, filled, refused, read_answer, Leaves, Output, bytes, refusal, write_answer, room_after, Writes}
-use Rattle.store.specs.Rows.{node_room, number_room, places_of, cell, put, firsts, Row, row, node_over, span, kind_at, dimension_at, parts_at, node_column, span_start_at, span_length_at, node_width, number_width, rows_in, spans_in, open_row, close_row, put_row, put_span, close_in, flat_rows, flat_spans, padded, cleared}
+use Rattle.store.specs.Rows.{node_room, number_room, places_of, cell, put, firsts, Row, row, node_over, span, kind_at, dimension_at, parts_at, node_column, span_start_at, span_length_at, node_width, number_width, rows_in, spans_in, open_row, close_row, put_row, put_span, close_in, flat_rows, flat_spans, padded, cleared, cleared_to}
 
 -- two rows, and one number that makes no row
 nodes : List ℕ
@@ -20,7 +20,7 @@ point : Row
 point = row 1 0 1
 
 all : ℕ
-unfolding nodes collection point places_of cell node_column put firsts rows_in spans_in open_row close_row put_row put_span close_in flat_rows flat_spans flat_map cleared
+unfolding nodes collection point places_of cell node_column put firsts rows_in spans_in open_row close_row put_row put_span close_in flat_rows flat_spans flat_map cleared_to
 all = 0
 
 -- seven numbers have room for two node rows, or for three number rows

@@ -156,6 +156,9 @@ zeros n = replicate n 0
 abbrev pub padded : List ℕ → ℕ → List ℕ
 padded l n = l ++ zeros (n - length l)
 
--- the slice with zeros from the place `from` on
-unfoldable pub cleared : List ℕ → ℕ → List ℕ
-cleared s from = take from s ++ zeros (length s - from)
+-- the slice with zeros from the place `from` on: of numbers of any type, whose zero is z, and of unsigned ones
+unfoldable pub cleared_to : {A : Type 0} → A → List A → ℕ → List A
+cleared_to z s from = take from s ++ replicate (length s - from) z
+
+abbrev pub cleared : List ℕ → ℕ → List ℕ
+cleared s from = cleared_to 0 s from

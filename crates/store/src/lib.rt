@@ -1,8 +1,8 @@
 // Rows in lent slices: nodes and numbers, as document 01's "The store" lays them out.
 #![tactic(auto)]
 
-ghost use Rattle.std.specs.Prelude.{◌≡◌, ◌≤◌, ◌<◌, length};
-ghost use Rattle.store.specs.Rows.{node_width, number_width, node_room, number_room, places_of, open_row, close_row, put_row, put_span, cleared, kind_at, dimension_at, parts_at, node_column, span_start_at, span_length_at, cell};
+ghost use Rattle.std.specs.Prelude.{◌≡◌, ◌≤◌, ◌<◌, length, pos};
+ghost use Rattle.store.specs.Rows.{node_width, number_width, node_room, number_room, places_of, open_row, close_row, put_row, put_span, cleared_to, kind_at, dimension_at, parts_at, node_column, span_start_at, span_length_at, cell};
 ghost use Rattle.store.specs.Answers.{Accepts, refused, Leaves};
 
 pub const NODE_WIDTH: usize = 3;
@@ -121,14 +121,54 @@ pub fn put_row(nodes: &mut [u32], row: usize, kind: u32, dimension: u32, parts: 
     }
 }
 
+// A kind of numbers with a zero, for places that are cleared.
+pub trait Zero: Copy {
+    ghost ZERO: { Self };
+
+    const ZERO: Self;
+
+    // A copy of the zero is made without fail, and is the zero.
+    ghost copied: { Self.is_infallible ZERO };
+
+    ghost same: { (x : Self) → Self.is_clone ZERO x → x ≡ ZERO };
+}
+
+impl Zero for u8 {
+    ghost ZERO = { 0 };
+
+    const ZERO: u8 = 0;
+
+    ghost copied = { tt };
+
+    ghost same = { λ x e. e };
+}
+
+impl Zero for u32 {
+    ghost ZERO = { 0 };
+
+    const ZERO: u32 = 0;
+
+    ghost copied = { tt };
+
+    ghost same = { λ x e. e };
+}
+
+impl Zero for i64 {
+    ghost ZERO = { pos 0 };
+
+    const ZERO: i64 = 0;
+
+    ghost copied = { tt };
+
+    ghost same = { λ x e. e };
+}
+
 // Zeroes the slice from `from` on.
-pub fn clear(slice: &mut [u32], from: usize)
-    ensures { slice.new ≡ cleared slice.old from }
+pub fn clear<T: Zero>(slice: &mut [T], from: usize)
+    ensures { slice.new ≡ cleared_to T.ZERO slice.old from }
 {
-    let mut i = from;
-    while i < slice.len() {
-        slice[i] = 0;
-        i += 1;
+    if from < slice.len() {
+        slice[from..].fill(T::ZERO);
     }
 }
 

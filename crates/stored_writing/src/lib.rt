@@ -129,7 +129,7 @@ fn put_tree(text: &[u8], nodes: &[u32], numbers: &[u32], v: Version, out: &mut [
     );
     let q = put_nodes(out, p, v.width, nodes);
     let r = put_numbers(out, q, text, numbers);
-    pen::clear(out, r.at);
+    store::clear(out, r.at);
     WriteAnswer {
         number: 0,
         place: 0,
@@ -196,7 +196,7 @@ fn put_read(
     );
     let after_nodes = put_nodes(out, after_head, v.width, nodes);
     let after_numbers = pen::put(out, after_nodes, &source[middle..]);
-    pen::clear(out, after_numbers.at);
+    store::clear(out, after_numbers.at);
     WriteAnswer {
         number: 0,
         place: 0,
@@ -259,7 +259,7 @@ pub fn move_between(
 {
     let read = stored_reading::read(bytes, from, nodes, numbers);
     if read.number != 0 {
-        pen::clear(out, 0);
+        store::clear(out, 0);
         return refused_move(read.number, read.place);
     }
     let node_places = store::node_places(nodes, read.nodes);

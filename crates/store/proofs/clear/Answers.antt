@@ -1,21 +1,11 @@
--- `store::clear` meets its contract. The loop's invariant: clearing what is left gives what clearing all that was asked for gives.
-use mathlib.Core.Path.{refl, sym, ◌∙◌}
-use native.Mathlib.Omega.{arith}
-use lib.ListN.{length-set}
-use Rattle.store.proofs.Zeros.{cleared_on, cleared_past}
+-- `store::clear` meets its contract: the places from `from` on are filled, or there is none.
+use mathlib.Core.Path.{sym}
+use Rattle.store.proofs.Zeros.{cleared_filled, cleared_past}
 use Rattle.store.proofs.clear.Goals as goal
 
-pub loop-i-init : goal.loop-i-init
-loop-i-init c = (refl, refl)
+pub returns-then-from-slice : goal.returns-then-from-slice
+returns-then-from-slice g c =
+    cleared_filled _ _ _ _ (rw c.ZERO.ensures at (c.fill.ensures.after (rw c.ZERO.ensures g.met.T.Zero.same)))
 
-pub loop-i-smaller : goal.loop-i-smaller
-loop-i-smaller c = simp length-set (omega arith)
-
-pub loop-i-preserved : goal.loop-i-preserved
-loop-i-preserved c = (cleared_on _ _ c.loop-i-test.true ∙ c.loop-i.invariant.0, simp length-set c.loop-i.invariant.1)
-
-pub shape_of-slice : goal.shape_of-slice
-shape_of-slice c = c.loop-i.invariant.1
-
-pub returns : goal.returns
-returns c = sym (cleared_past _ _ c.loop-i-test.false) ∙ c.loop-i.invariant.0
+pub returns-else-from-slice : goal.returns-else-from-slice
+returns-else-from-slice g c = sym (cleared_past _ _ _ c.if-from-slice.false)
