@@ -17,8 +17,7 @@ use Rattle.nodes.specs.Nodes.{follow}
 use Rattle.nodes.proofs.Meets.{follow_none, follow_both}
 use Rattle.walk.specs.declared.Walk.{Walk}
 use Rattle.walk.specs.declared.Walked.{Walked}
-use Rattle.walk.specs.declared.Entered.{Entered}
-use Rattle.walk.specs.declared.Entered.TheVariants.{To, Ill}
+use Rattle.std.specs.Prelude.{Option, Some, None}
 use Rattle.walk.specs.Walk.{cells, After, beginning, entering, has_ended, walk_step, ahead_by}
 use Rattle.walk.proofs.Fed.{Reached, given_begin, given_to, given_ill, given_last}
 use Rattle.shape.specs.Walk.{rows_from, ahead, whole_walk}
@@ -91,19 +90,19 @@ giving_begin nodes count s₀ long e =
     record { reached = b.reached; row = b.row; same = ap is_some (b.whole count (rows_from nodes 0)) }
 
 module _ {nodes : List ℕ} {count : ℕ} {s : List ℕ} {w : Walk} {i : ℕ} (g : Giving nodes count s w i) where
-  module _ (r : Row) (is : r ≡ row_at nodes i) (h : i < node_room nodes) (fits : i + 1 < 2 ^ 64) {x : Entered} {s' : List ℕ} (e : (x, s') ≡ entering s count w r) where
+  module _ (r : Row) (is : r ≡ row_at nodes i) (h : i < node_room nodes) (fits : i + 1 < 2 ^ 64) {x : Option Walk} {s' : List ℕ} (e : (x, s') ≡ entering s count w r) where
     counted : w.row + 1 < 2 ^ 64
     counted = omega (arith, g.row)
 
     with_row : is_some (ahead_by count s w (r ∷ rows_from nodes (i + 1))) ≡ is_some (whole_walk nodes count)
     with_row = rw (is, ← rows_in_law nodes i h) g.same
 
-    pub giving_to : {w' : Walk} → x ≡ To w' → Giving nodes count s' w' (i + 1)
+    pub giving_to : {w' : Walk} → x ≡ Some w' → Giving nodes count s' w' (i + 1)
     giving_to z =
         let n = given_to count g.reached r counted (sym e ∙ ap (λ y. (y, s')) z) in
         record { reached = n.reached; row = n.row ∙ ap (λ k. k + 1) g.row; same = sym (n.same (rows_from nodes (i + 1))) ∙ with_row }
 
-    pub giving_ill : x ≡ Ill → false ≡ is_some (whole_walk nodes count)
+    pub giving_ill : x ≡ None → false ≡ is_some (whole_walk nodes count)
     giving_ill z = ap is_some (sym (given_ill count g.reached r counted (sym e ∙ ap (λ y. (y, s')) z) (rows_from nodes (i + 1)))) ∙ with_row
 
   pub giving_last : node_room nodes ≤ i → has_ended s count w ≡ is_some (whole_walk nodes count)

@@ -8,7 +8,7 @@ ghost use Rattle.shape.specs.Store.{well_formed};
 ghost use Rattle.shape.specs.Walk.{are_rows, whole_walk};
 
 use store::{NODE_WIDTH, NUMBER_WIDTH};
-use walk::{CELLS, Entered};
+use walk::CELLS;
 
 // Whether the rows are exactly one tree that needs `count` numbers.
 fn is_tree(nodes: &[u32], count: usize) -> bool
@@ -16,9 +16,7 @@ fn is_tree(nodes: &[u32], count: usize) -> bool
 {
     let mut cells = [0; CELLS];
     let mut w = walk::start(&mut cells);
-    let rows = store::node_room(nodes);
-    let mut i = 0;
-    while i < rows {
+    for i in 0..store::node_room(nodes) {
         let entered = walk::enter(
             &mut cells,
             count,
@@ -27,15 +25,10 @@ fn is_tree(nodes: &[u32], count: usize) -> bool
             store::dimension_at(nodes, i),
             store::parts_at(nodes, i),
         );
-        match entered {
-            Entered::To(after) => {
-                w = after;
-            }
-            Entered::Ill => {
-                return false;
-            }
-        }
-        i += 1;
+        let Some(after) = entered else {
+            return false;
+        };
+        w = after;
     }
     walk::has_ended(&cells, count, w)
 }
@@ -65,25 +58,14 @@ pub fn is_number_at(text: &[u8], numbers: &[u32], i: usize) -> bool
         return false;
     }
     let w = &text[start..end];
-    if number::is_plain(w) {
-        return true;
-    }
-    number::is_lexeme(w)
+    number::is_plain(w) || number::is_lexeme(w)
 }
 
 // Whether each number lies in the text and is a lexeme.
 fn are_numbers(text: &[u8], numbers: &[u32]) -> bool
     ensures { result ≡ are_numbers text.now numbers.now }
 {
-    let count = store::number_room(numbers);
-    let mut i = 0;
-    while i < count {
-        if !is_number_at(text, numbers, i) {
-            return false;
-        }
-        i += 1;
-    }
-    true
+    (0..store::number_room(numbers)).all(|i| is_number_at(text, numbers, i))
 }
 
 // Whether the slices hold whole rows, and each number lies in the text and is a lexeme.

@@ -11,8 +11,7 @@ use lib.ListN.{length, get_or, take, drop}
 use Rattle.store.specs.Rows.{Row, row}
 use Rattle.lists.specs.Options.{is_some}
 use Rattle.walk.specs.declared.Walk.{Walk}
-use Rattle.walk.specs.declared.Entered.{Entered}
-use Rattle.walk.specs.declared.Entered.TheVariants.{To, Ill}
+use Rattle.std.specs.Prelude.{Option, Some, None}
 use Rattle.walk.specs.Walk.{cells, beginning, entering, has_ended, ahead_by}
 use Rattle.walk.proofs.Fed.{Reached, Begun, given_begin, Gone, given_to, given_ill, given_last}
 use Rattle.fields.specs.Counts.{byte, count_in}
@@ -94,11 +93,11 @@ module _ {width : ℕ} {bytes : List ℕ} {start count numbers : ℕ} {s : List 
         its_row : given ≡ row_told width bytes at
         its_row = rw (told, count_read bytes all (at + head_length + 2) (at + head_length + 2 + width) width (omega arith) narrow)
 
-        module _ {met : Entered} {s' : List ℕ} (entered : (met, s') ≡ entering s numbers w given) where
+        module _ {met : Option Walk} {s' : List ℕ} (entered : (met, s') ≡ entering s numbers w given) where
           counted : w.row + 1 < 2 ^ 64
           counted = omega (arith, (l.reached z).1)
 
-          pub node_to : {w' : Walk} → met ≡ To w' → LookingNodes width bytes start count numbers s' w' true (at + head_length + 2 + width) (i + 1)
+          pub node_to : {w' : Walk} → met ≡ Some w' → LookingNodes width bytes start count numbers s' w' true (at + head_length + 2 + width) (i + 1)
           node_to {w'} m =
               let g = given_to numbers (l.reached z).0 given counted (rw m at (sym entered)) in
               record {
@@ -107,7 +106,7 @@ module _ {width : ℕ} {bytes : List ℕ} {start count numbers : ℕ} {s : List 
                 reached = λ y. (g.reached, g.row ∙ ap (λ k. k + 1) (l.reached z).1);
               }
 
-          pub node_ill : met ≡ Ill → (w' : Walk) → LookingNodes width bytes start count numbers s' w' false (at + head_length + 2 + width) (i + 1)
+          pub node_ill : met ≡ None → (w' : Walk) → LookingNodes width bytes start count numbers s' w' false (at + head_length + 2 + width) (i + 1)
           node_ill m w' =
               let g = given_ill numbers (l.reached z).0 given counted (rw m at (sym entered)) in
               record {

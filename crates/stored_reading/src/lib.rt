@@ -15,7 +15,7 @@ use refusals::{
 };
 use store::ReadAnswer;
 use stored_form::{Counts, Edition, HEAD_TAG, Head, NODE_TAG, Seen, Version};
-use walk::{CELLS, Entered};
+use walk::CELLS;
 
 // Where the version stands, and where the counts begin.
 const VERSION_AT: usize = 3;
@@ -77,10 +77,10 @@ fn look_at_nodes(bytes: &[u8], width: usize, first: usize, count: usize, numbers
                 fields::count_in(&bytes[parts..end]),
             );
             match entered {
-                Entered::To(after) => {
+                Some(after) => {
                     w = after;
                 }
-                Entered::Ill => {
+                None => {
                     well = false;
                 }
             }

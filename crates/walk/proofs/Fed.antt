@@ -20,11 +20,9 @@ use Rattle.nodes.specs.declared.Met.TheVariants.{Node, End, Done, Ill}
 use Rattle.nodes.specs.Nodes.{above, visit_of, numbers_of, is_leaf, is_allowed, may_open, frame_of, onward, is_spent, node_ends, still_open, follow, at_last, meets_node, meets_rows, meets}
 use Rattle.nodes.proofs.Meets.{meets_open}
 use Rattle.walk.specs.declared.Walk.{Walk}
-use Rattle.walk.specs.declared.Wanted.{Wanted}
-use Rattle.walk.specs.declared.Wanted.TheVariants.{Below, None}
-use Rattle.walk.specs.declared.Entered.{Entered}
-use Rattle.walk.specs.declared.Entered.TheVariants as entered
-use Rattle.walk.specs.Walk.{frames, cells, frame_at, put_frame, put_next, walk_at, walked, After, ill, beginning, passing_leaf, pushing, meeting, wanted_from, is_node, entering_at, entering, ended_at, has_ended, open_at, ahead_by, NumbersIn}
+use Rattle.std.specs.Prelude as rust
+use Rattle.std.specs.Prelude.{Some, None, is_none}
+use Rattle.walk.specs.Walk.{frames, cells, frame_at, put_frame, put_next, walk_at, walked, After, ill, beginning, passing_leaf, pushing, meeting, wanted_from, is_node, entering_at, entering, has_ended, open_at, ahead_by, NumbersIn}
 use Rattle.walk.proofs.Stack.{firsts_cut, firsts_past, open_from, open_put, long_put, open_next, long_next}
 use Rattle.walk.proofs.Nested.{Nested, depth_limit_law, nested_above, nested_onward, nested_open}
 use Rattle.walk.proofs.Wants.{WantsBelow, Wants, wants}
@@ -180,9 +178,9 @@ pub record Gone (count : ℕ) (s : List ℕ) (w : Walk) (r : Row) (s' : List ℕ
   pub row : w'.row ≡ w.row + 1
   pub same : (rs : List Row) → is_some (ahead_by count s w (r ∷ rs)) ≡ is_some (ahead_by count s' w' rs)
 
-abbrev Given : ℕ → List ℕ → Walk → Row → Entered × List ℕ → Type 0
-Given count s w r (entered.To w', s') = Gone count s w r s' w'
-Given count s w r (entered.Ill, s') = (rs : List Row) → ahead_by count s w (r ∷ rs) ≡ none
+abbrev Given : ℕ → List ℕ → Walk → Row → rust.Option Walk × List ℕ → Type 0
+Given count s w r (Some w', s') = Gone count s w r s' w'
+Given count s w r (None, s') = (rs : List Row) → ahead_by count s w (r ∷ rs) ≡ none
 
 module _ (count : ℕ) {s : List ℕ} {w : Walk} (reached : Reached s w) where
   module _ (r : Row) (counted : w.row + 1 < 2 ^ 64) where
@@ -197,12 +195,12 @@ module _ (count : ℕ) {s : List ℕ} {w : Walk} (reached : Reached s w) where
       same_here : (rs : List Row) → is_some (ahead_by count s w rs) ≡ is_some (ahead_by count s here rs)
       same_here rs = some_open count w.row w.number rs (open_from s w.top) ∙ rw h.open_still (sym (some_open count w.row w.number rs (open_from s u)))
 
-      given_below : Given count s w r (entering_at s count w r (Below u))
+      given_below : Given count s w r (entering_at s count w r (Some u))
       given_below =
           let a : After = meeting s count here (visit_of w.row w.number (frame_at s u) r) in
           rw (lt-ltb (w.row + 1) (2 ^ 64) counted) (go a.0.met a.0.next a.1 (met_row s here here_reached h.inside count h.unspent r))
         where
-          go : (m : Met) (w' : Walk) (s' : List ℕ) → MetTo count s here r m w' s' → Given count s w r (cond (is_node m) (entered.To w') entered.Ill, s')
+          go : (m : Met) (w' : Walk) (s' : List ℕ) → MetTo count s here r m w' s' → Given count s w r (cond (is_node m) (Some w') None, s')
           go (Node n) w' s' g = record {
             reached = g.reached;
             row = g.row;
@@ -212,9 +210,9 @@ module _ (count : ℕ) {s : List ℕ} {w : Walk} (reached : Reached s w) where
           go Done w' s' g = absurd g
           go Ill w' s' g = λ rs. not_some (ahead_by count s w (r ∷ rs)) (same_here (r ∷ rs) ∙ ap is_some (g rs))
 
-    given_at : (x : Wanted) → Wants s w.top x → Given count s w r (entering_at s count w r x)
+    given_at : (x : rust.Option ℕ) → Wants s w.top x → Given count s w r (entering_at s count w r x)
     unfolding meets_rows
-    given_at (Below u) h = given_below u h
+    given_at (Some u) h = given_below u h
     given_at None h = λ rs. not_some (ahead_by count s w (r ∷ rs)) (some_open count w.row w.number (r ∷ rs) (open_from s w.top) ∙ rw (h reached.nested))
 
     given : Given count s w r (entering s count w r)
@@ -222,16 +220,16 @@ module _ (count : ℕ) {s : List ℕ} {w : Walk} (reached : Reached s w) where
     given = given_at (wanted_from s w.top) (wants s w.top)
 
     -- the walk goes on; or the rows are no tree, whatever comes after
-    pub given_to : {w' : Walk} {s' : List ℕ} → entering s count w r ≡ (entered.To w', s') → Gone count s w r s' w'
+    pub given_to : {w' : Walk} {s' : List ℕ} → entering s count w r ≡ (Some w', s') → Gone count s w r s' w'
     given_to e = rw e at given
 
-    pub given_ill : {s' : List ℕ} → entering s count w r ≡ (entered.Ill, s') → (rs : List Row) → ahead_by count s w (r ∷ rs) ≡ none
+    pub given_ill : {s' : List ℕ} → entering s count w r ≡ (None, s') → (rs : List Row) → ahead_by count s w (r ∷ rs) ≡ none
     given_ill e = rw e at given
 
   -- ---- after the last row
-  last_at : (x : Wanted) → Wants s w.top x → ended_at count w x ≡ is_some (at_last count (still_open (open_at s w)) w.number)
+  last_at : (x : rust.Option ℕ) → Wants s w.top x → (is_none x && eqb w.number count) ≡ is_some (at_last count (still_open (open_at s w)) w.number)
   unfolding at_last still_open
-  last_at (Below u) h = rw (h.open_still, firsts_cut (frame_at s) frames u h.inside, h.unspent)
+  last_at (Some u) h = rw (h.open_still, firsts_cut (frame_at s) frames u h.inside, h.unspent)
   last_at None h = rw (h reached.nested) (go (eqb w.number count))
     where
       go : (b : Bool) → b ≡ is_some (cond {A = Option (List Met)} b (some []) none)

@@ -10,19 +10,28 @@ use borrow.Author.Tests.{ltb-true, leb-false, lt-ltb, le-ltb}
 use Rattle.store.specs.Rows.{Row, row, node_room, row_at}
 use Rattle.nodes.specs.declared.Frame.{Frame}
 use Rattle.nodes.specs.declared.Visit.{Visit}
+use Rattle.nodes.specs.declared.Met.{Met}
 use Rattle.nodes.specs.declared.Met.TheVariants as met
 use Rattle.nodes.specs.Nodes.{no_kind, visit_of, numbers_of, is_leaf, is_allowed, may_open, frame_of}
 use Rattle.walk.specs.declared.Walk.{Walk}
 use Rattle.walk.specs.declared.Coming.TheVariants.{Child, End, Last}
-use Rattle.walk.specs.declared.Wanted.TheVariants.{Below, None}
-use Rattle.walk.specs.declared.Entered.{Entered}
-use Rattle.walk.specs.declared.Entered.TheVariants.{To, Ill}
+use Rattle.std.specs.Prelude.{Option, Some, None}
 use Rattle.walk.specs.Walk.{frames, HasChild, frame_at, put_frame, put_next, walk_at, walked, After, ill, coming_in, coming_next, passing_leaf, pushing, meeting, wanted_from, is_node, entered_by, entering, walk_step}
 use Rattle.walk.proofs.Wants.{wants_here, wants_below}
 
+-- what is met is a node, or it is none
+pub node_met : {m : Met} {v : Visit} → m ≡ met.Node v → is_node m ≡ true
+node_met e = rw e
+
+pub not_node : (m : Met) → ((v : Visit) → m ≡ met.Node v → ⊥) → is_node m ≡ false
+not_node (met.Node v) h = absurd (h v refl)
+not_node (met.End i n) h = refl
+not_node met.Done h = refl
+not_node met.Ill h = refl
+
 -- ---- a row that is given
 -- a node wants a child, and the row can be counted
-module _ (s : List ℕ) (w : Walk) (r : Row) (t : ℕ) (e : wanted_from s w.top ≡ Below t) (counted : w.row + 1 < 2 ^ 64) (f : Frame) (i : f ≡ frame_at s t) where
+module _ (s : List ℕ) (w : Walk) (r : Row) (t : ℕ) (e : wanted_from s w.top ≡ Some t) (counted : w.row + 1 < 2 ^ 64) (f : Frame) (i : f ≡ frame_at s t) where
   pub has_child : HasChild (walk_at w.row w.number t) (visit_of w.row w.number f r)
   has_child =
       let h = wants_below s e in
@@ -34,18 +43,18 @@ module _ (s : List ℕ) (w : Walk) (r : Row) (t : ℕ) (e : wanted_from s w.top 
 
   -- a node was met; or none was
   module _ (count : ℕ) (a : After) (m : a ≡ meeting s count (walk_at w.row w.number t) (visit_of w.row w.number f r)) where
-    pub enters_to : is_node a.0.met ≡ true → (To a.0.next, a.1) ≡ entering s count w r
+    pub enters_to : is_node a.0.met ≡ true → (Some a.0.next, a.1) ≡ entering s count w r
     enters_to n = rw (enters count, ← m, n)
 
-    pub enters_ill : is_node a.0.met ≡ false → (Ill, a.1) ≡ entering s count w r
+    pub enters_ill : is_node a.0.met ≡ false → (None, a.1) ≡ entering s count w r
     enters_ill n = rw (enters count, ← m, n)
 
 module _ (s : List ℕ) (count : ℕ) (w : Walk) (r : Row) where
-  pub none_wanted : wanted_from s w.top ≡ None → (Ill, s) ≡ entering s count w r
+  pub none_wanted : wanted_from s w.top ≡ None → (None, s) ≡ entering s count w r
   unfolding entering
   none_wanted e = rw e
 
-  pub not_counted : (t : ℕ) → wanted_from s w.top ≡ Below t → 2 ^ 64 ≤ w.row + 1 → (Ill, s) ≡ entering s count w r
+  pub not_counted : (t : ℕ) → wanted_from s w.top ≡ Some t → 2 ^ 64 ≤ w.row + 1 → (None, s) ≡ entering s count w r
   unfolding entering
   not_counted t e h = rw (e, le-ltb (w.row + 1) (2 ^ 64) h)
 
@@ -65,9 +74,9 @@ module _ (s : List ℕ) (w : Walk) (f : Frame) where
           (ltb-true w.top frames x, rw i at (leb-false (frame_at s w.top).parts (frame_at s w.top).next y), sym i)
 
 -- what is met, told by what comes of the row: the node itself, or nothing, and then the walk stays
-abbrev met_by : Walk → Visit → Entered × List ℕ → After
-met_by w v (To w', s) = (walked (met.Node v) w', s)
-met_by w v (Ill, s) = ill s w
+abbrev met_by : Walk → Visit → Option Walk × List ℕ → After
+met_by w v (Some w', s) = (walked (met.Node v) w', s)
+met_by w v (None, s) = ill s w
 
 module _ (s : List ℕ) (count : ℕ) (w : Walk) (v : Visit) where
   abbrev Told : After → Type 0
@@ -104,18 +113,18 @@ module _ (nodes : List ℕ) (count : ℕ) (s : List ℕ) (w : Walk) (f : Frame) 
   no_row h = rw (e, le-ltb w.row (node_room nodes) h)
 
   -- the next row is given
-  module _ (v : Visit) (i : v ≡ visit_of w.row w.number f (row_at nodes w.row)) (here : w.row < node_room nodes) (counted : w.row + 1 < 2 ^ 64) (x : Entered) (s' : List ℕ)
+  module _ (v : Visit) (i : v ≡ visit_of w.row w.number f (row_at nodes w.row)) (here : w.row < node_room nodes) (counted : w.row + 1 < 2 ^ 64) (x : Option Walk) (s' : List ℕ)
       (q : (x, s') ≡ entering s count w (row v.kind v.dimension v.parts)) where
     given : met_by w v (x, s') ≡ walk_step nodes count s w
     unfolding walk_step
     given =
         let o = wanted_of s w f e in
-        let b : wanted_from s w.top ≡ Below w.top = wants_here s w.top f o.2 o.0 o.1 in
+        let b : wanted_from s w.top ≡ Some w.top = wants_here s w.top f o.2 o.0 o.1 in
         let m : (x, s') ≡ entered_by (meeting s count w v) = q ∙ rw i (enters s w (row_at nodes w.row) w.top b counted f o.2 count) in
         ap (met_by w v) m ∙ told s count w v ∙ rw (e, lt-ltb w.row (node_room nodes) here, i)
 
-    pub row_to : (w' : Walk) → x ≡ To w' → (walked (met.Node v) w', s') ≡ walk_step nodes count s w
+    pub row_to : (w' : Walk) → x ≡ Some w' → (walked (met.Node v) w', s') ≡ walk_step nodes count s w
     row_to w' z = rw z at given
 
-    pub row_ill : x ≡ Ill → ill s' w ≡ walk_step nodes count s w
+    pub row_ill : x ≡ None → ill s' w ≡ walk_step nodes count s w
     row_ill z = rw z at given

@@ -9,8 +9,7 @@ use lib.Dec.{eqb}
 use borrow.Author.Tests.{eq-eqb, ne_eqb, le-leb, lt-leb, eqb-true}
 use Rattle.nodes.specs.declared.Frame.{Frame}
 use Rattle.nodes.specs.Nodes.{no_kind, is_spent, still_open}
-use Rattle.walk.specs.declared.Wanted.{Wanted}
-use Rattle.walk.specs.declared.Wanted.TheVariants.{Below, None}
+use Rattle.std.specs.Prelude.{Option, Some, None}
 use Rattle.walk.specs.Walk.{frames, frame_at, wanted_in, wanted_from}
 use Rattle.walk.proofs.Stack.{firsts_cut, firsts_past, open_from}
 use Rattle.walk.proofs.Nested.{Nested, nested_outer, outermost}
@@ -25,7 +24,7 @@ module _ (s : List ℕ) (t : ℕ) where
     some : frames - t ≡ suc (frames - (t + 1))
     some = omega arith
 
-    pub wants_here : f.next < f.parts → wanted_from s t ≡ Below t
+    pub wants_here : f.next < f.parts → wanted_from s t ≡ Some t
     unfolding wanted_in
     wants_here u = rw (some, ← is, lt-leb f.parts f.next u)
 
@@ -46,8 +45,8 @@ pub record WantsBelow (s : List ℕ) (t u : ℕ) : Type 0 where
   pub open_still : still_open (open_from s t) ≡ still_open (open_from s u)
 
 -- where none does, all have ended
-abbrev pub Wants : List ℕ → ℕ → Wanted → Type 0
-Wants s t (Below u) = WantsBelow s t u
+abbrev pub Wants : List ℕ → ℕ → Option ℕ → Type 0
+Wants s t (Some u) = WantsBelow s t u
 Wants s t None = Nested (open_from s t) → still_open (open_from s t) ≡ []
 
 module _ (s : List ℕ) where
@@ -65,10 +64,10 @@ module _ (s : List ℕ) where
       ended : is_spent (frame_at s t) ≡ true → still_open (open_from s t) ≡ still_open (open_from s (t + 1))
       ended x = rw (cut, x)
 
-      go : (a : Bool) → is_spent (frame_at s t) ≡ a → (b : Bool) → eqb (frame_at s t).kind no_kind ≡ b → (x : Wanted) → Wants s (t + 1) x → Wants s t (cond a (cond b None x) (Below t))
+      go : (a : Bool) → is_spent (frame_at s t) ≡ a → (b : Bool) → eqb (frame_at s t).kind no_kind ≡ b → (x : Option ℕ) → Wants s (t + 1) x → Wants s t (cond a (cond b None x) (Some t))
       go false p b q x ih = record { inside = inside; unspent = p; nested = λ o. o; open_still = refl }
       go true p true q x ih = λ o. ended p ∙ rw (outermost (rw cut at o) (eqb-true (frame_at s t).kind no_kind q))
-      go true p false q (Below u) ih = record {
+      go true p false q (Some u) ih = record {
         inside = ih.inside;
         unspent = ih.unspent;
         nested = λ o. ih.nested (nested_outer (rw cut at o));
@@ -79,5 +78,5 @@ module _ (s : List ℕ) where
   pub wants : (t : ℕ) → Wants s t (wanted_from s t)
   wants t = wants_in (frames - t) t refl
 
-  pub wants_below : {t u : ℕ} → wanted_from s t ≡ Below u → WantsBelow s t u
+  pub wants_below : {t u : ℕ} → wanted_from s t ≡ Some u → WantsBelow s t u
   wants_below {t} {u} e = let z : Wants s t (wanted_from s t) = wants t in rw e at z

@@ -1,5 +1,6 @@
 -- Worked examples of this crate's definitions, by computation: rows that are given one by one.
-use Rattle.std.specs.Prelude.{◌≡◌, refl, Bool, true, false, List, [], ◌∷◌, ◌++◌, ℕ, ◌-◌, ◌^◌}
+use Rattle.std.specs.Prelude as rust
+use Rattle.std.specs.Prelude.{Some, None, ◌≡◌, refl, Bool, true, false, List, [], ◌∷◌, ◌++◌, ℕ, ◌-◌, ◌^◌}
 use Rattle.std.proofs.Math.Option.{Option, none, some}
 use Rattle.kinds.specs.Kinds.{width}
 use Rattle.store.specs.Rows.{Row, node_over, zeros}
@@ -7,19 +8,15 @@ use Rattle.lists.specs.Options.{map_o}
 use Rattle.nodes.specs.Nodes.{node_end, node_ends, still_open, at_last, is_allowed, child_kind, numbers_of, meets_node, meets_rows, meets}
 use Rattle.nodes.specs.Examples.{leaf, nest, point, empty_point, store}
 use Rattle.walk.specs.declared.Walk.{Walk}
-use Rattle.walk.specs.declared.Wanted.{Wanted}
-use Rattle.walk.specs.declared.Wanted.TheVariants.{Below, None}
-use Rattle.walk.specs.declared.Entered.{Entered}
-use Rattle.walk.specs.declared.Entered.TheVariants.{To, Ill}
 use Rattle.walk.specs.Walk.{cells, frame_at, put_frame, put_next, walk_at, beginning, passing_leaf, pushing, meeting, wanted_in, wanted_from, entering, has_ended}
 
 -- a walk and its frames, if no row before was ill
 abbrev Standing : Type 0
 Standing = Option (Walk × List ℕ)
 
-on_to : Entered × List ℕ → Standing
-on_to (To w, s) = some (w, s)
-on_to (Ill, s) = none
+on_to : rust.Option Walk × List ℕ → Standing
+on_to (Some w, s) = some (w, s)
+on_to (None, s) = none
 
 -- rows are given to it one after the other
 give : ℕ → Standing → List Row → Standing
@@ -37,7 +34,7 @@ after count rs = give count (some start) rs
 stands : ℕ → List Row → Option Walk
 stands count rs = map_o (λ x. x.0) (after count rs)
 
-wants : ℕ → List Row → Option Wanted
+wants : ℕ → List Row → Option (rust.Option ℕ)
 wants count rs = map_o (λ x. wanted_from x.1 x.0.top) (after count rs)
 
 ended : ℕ → List Row → Option Bool
@@ -49,15 +46,15 @@ given = 0
 
 -- `GEOMETRYCOLLECTION(POINT(1 2))`: nothing, its first row, both; the collection has the frame below that above the root
 by_one :
-    (stands 2 [] ≡ some (walk_at 0 0 34)) × (wants 2 [] ≡ some (Below 34)) × (ended 2 [] ≡ some false)
-    × (stands 2 (leaf 7 0 1) ≡ some (walk_at 1 0 33)) × (wants 2 (leaf 7 0 1) ≡ some (Below 33)) × (ended 2 (leaf 7 0 1) ≡ some false)
+    (stands 2 [] ≡ some (walk_at 0 0 34)) × (wants 2 [] ≡ some (Some 34)) × (ended 2 [] ≡ some false)
+    × (stands 2 (leaf 7 0 1) ≡ some (walk_at 1 0 33)) × (wants 2 (leaf 7 0 1) ≡ some (Some 33)) × (ended 2 (leaf 7 0 1) ≡ some false)
     × (stands 2 (nest 1 point) ≡ some (walk_at 2 2 33)) × (wants 2 (nest 1 point) ≡ some None) × (ended 2 (nest 1 point) ≡ some true)
 unfolding given
 by_one = (refl, refl, refl, refl, refl, refl, refl, refl, refl)
 
 -- `GEOMETRYCOLLECTION(MULTIPOINT((1 2)),POINT EMPTY)`: after its third row the multipoint, in frame 32, has ended, and the collection's second child is wanted
 inner_ended :
-    (stands 2 (node_over 7 0 2 (node_over 4 0 1 point)) ≡ some (walk_at 3 2 32)) × (wants 2 (node_over 7 0 2 (node_over 4 0 1 point)) ≡ some (Below 33))
+    (stands 2 (node_over 7 0 2 (node_over 4 0 1 point)) ≡ some (walk_at 3 2 32)) × (wants 2 (node_over 7 0 2 (node_over 4 0 1 point)) ≡ some (Some 33))
     × (stands 2 store ≡ some (walk_at 4 2 33)) × (ended 2 store ≡ some true)
 unfolding given
 inner_ended = (refl, refl, refl, refl)

@@ -1,7 +1,7 @@
 -- The walk as the code takes it, step by step, with its frames as numbers in a lent array: `proofs/Fed`, for rows that are given, and `proofs/Stepped` of `shape`,
 -- for those of a slice, show that it meets what `Nodes` says.
-use Rattle.std.specs.Prelude.{Bool, true, false, cond, not, ◌&&◌, List, [], ◌∷◌, ℕ, zero, suc, ◌+◌, ◌-◌, ◌*◌, ◌/◌, ◌%◌, ◌^◌, ◌≤◌, ◌<◌, eqb, leb, ltb, drop, get_or, set}
-use Rattle.std.proofs.Math.Option.{Option}
+use Rattle.std.specs.Prelude.{Bool, true, false, cond, not, ◌&&◌, Option, Some, None, is_none, List, [], ◌∷◌, ℕ, zero, suc, ◌+◌, ◌-◌, ◌*◌, ◌/◌, ◌%◌, ◌^◌, ◌≤◌, ◌<◌, eqb, leb, ltb, drop, get_or, set}
+use Rattle.std.proofs.Math.Option as maybe
 use Rattle.std.proofs.lemmas.List.Edits.{sets}
 use Rattle.kinds.specs.Kinds.{kind_line_string, width}
 use Rattle.store.specs.Rows.{Row, node_room, firsts, row_at}
@@ -14,10 +14,6 @@ use Rattle.walk.specs.declared.Walk.{Walk}
 use Rattle.walk.specs.declared.Walked.{Walked}
 use Rattle.walk.specs.declared.Coming.{Coming}
 use Rattle.walk.specs.declared.Coming.TheVariants as coming
-use Rattle.walk.specs.declared.Wanted.{Wanted}
-use Rattle.walk.specs.declared.Wanted.TheVariants as wanted
-use Rattle.walk.specs.declared.Entered.{Entered}
-use Rattle.walk.specs.declared.Entered.TheVariants as entered
 
 -- ---- frames as numbers
 -- how many frames there are, and how many numbers each has
@@ -102,11 +98,11 @@ meeting s count w v = cond (is_allowed v) (cond (is_leaf v) (passing_leaf s coun
 
 -- ---- rows that are given one by one
 -- the innermost open node that wants a child, among n frames from t on: those before it have ended
-unfoldable pub wanted_in : List ℕ → ℕ → ℕ → Wanted
-wanted_in s zero t = wanted.None
-wanted_in s (suc n) t = cond (is_spent (frame_at s t)) (cond (eqb (frame_at s t).kind no_kind) wanted.None (wanted_in s n (t + 1))) (wanted.Below t)
+unfoldable pub wanted_in : List ℕ → ℕ → ℕ → Option ℕ
+wanted_in s zero t = None
+wanted_in s (suc n) t = cond (is_spent (frame_at s t)) (cond (eqb (frame_at s t).kind no_kind) None (wanted_in s n (t + 1))) (Some t)
 
-abbrev pub wanted_from : List ℕ → ℕ → Wanted
+abbrev pub wanted_from : List ℕ → ℕ → Option ℕ
 wanted_from s top = wanted_in s (frames - top) top
 
 abbrev pub is_node : Met → Bool
@@ -116,27 +112,23 @@ is_node Done = false
 is_node Ill = false
 
 -- a node was met, and the walk goes on; or none was
-abbrev pub entered_by : After → Entered × List ℕ
-entered_by (a, s) = (cond (is_node a.met) (entered.To a.next) entered.Ill, s)
+abbrev pub entered_by : After → Option Walk × List ℕ
+entered_by (a, s) = (cond (is_node a.met) (Some a.next) None, s)
 
 -- a row is met where one is wanted, if it can be counted
-abbrev pub entering_at : List ℕ → ℕ → Walk → Row → Wanted → Entered × List ℕ
-entering_at s count w r wanted.None = (entered.Ill, s)
-entering_at s count w r (wanted.Below t) =
+abbrev pub entering_at : List ℕ → ℕ → Walk → Row → Option ℕ → Option Walk × List ℕ
+entering_at s count w r None = (None, s)
+entering_at s count w r (Some t) =
     cond (ltb (w.row + 1) (2 ^ 64))
     (entered_by (meeting s count (walk_at w.row w.number t) (visit_of w.row w.number (frame_at s t) r)))
-    (entered.Ill, s)
+    (None, s)
 
-unfoldable pub entering : List ℕ → ℕ → Walk → Row → Entered × List ℕ
+unfoldable pub entering : List ℕ → ℕ → Walk → Row → Option Walk × List ℕ
 entering s count w r = entering_at s count w r (wanted_from s w.top)
 
 -- none is wanted after the last, and no number is left
-abbrev pub ended_at : ℕ → Walk → Wanted → Bool
-ended_at count w (wanted.Below t) = false
-ended_at count w wanted.None = eqb w.number count
-
 unfoldable pub has_ended : List ℕ → ℕ → Walk → Bool
-has_ended s count w = ended_at count w (wanted_from s w.top)
+has_ended s count w = is_none (wanted_from s w.top) && eqb w.number count
 
 -- ---- rows of a slice
 -- the root has ended: no row and no number is left
@@ -157,7 +149,7 @@ abbrev pub open_at : List ℕ → Walk → List Frame
 open_at s w = drop w.top (firsts (frame_at s) frames)
 
 -- what is still to be met of rows that are given
-abbrev pub ahead_by : ℕ → List ℕ → Walk → List Row → Option (List Met)
+abbrev pub ahead_by : ℕ → List ℕ → Walk → List Row → maybe.Option (List Met)
 ahead_by count s w rs = meets count (open_at s w) w.row w.number rs
 
 -- ---- what private functions ask

@@ -5,7 +5,7 @@ ghost use Rattle.std.specs.Prelude.{◌≡◌, true, leb, ◌+◌, ◌-◌, ◌*
 ghost use Rattle.store.specs.Rows.{row, row_at};
 ghost use Rattle.nodes.specs.Nodes.{visit_of, may_open, frame_of};
 ghost use Rattle.walk.specs.declared.Coming.TheVariants.{Child};
-ghost use Rattle.walk.specs.Walk.{frames, half, HasChild, frame_at, put_frame, put_next, beginning, coming_in, coming_next, passing_leaf, pushing, meeting, wanted_from, is_node, entering, has_ended, last_met, walk_step};
+ghost use Rattle.walk.specs.Walk.{frames, half, HasChild, frame_at, put_frame, put_next, beginning, coming_in, coming_next, passing_leaf, pushing, meeting, wanted_from, entering, has_ended, last_met, walk_step};
 
 use kinds::KIND_GEOMETRYCOLLECTION;
 use nodes::{Frame, Met, NO_KIND, Visit};
@@ -33,9 +33,6 @@ const NEXT: usize = 6;
 // How many numbers the frames have in all.
 pub const CELLS: usize = 245;
 
-// No row can be counted after this one.
-const LAST_ROW: usize = 18446744073709551615;
-
 // What a number of the array can hold.
 const HALF: usize = 4294967296;
 
@@ -54,20 +51,6 @@ pub enum Coming {
     Child(Frame),
     End(usize, usize, Walk),
     Last,
-}
-
-// What comes of a row that is given: the walk after it, or that it is ill where the walk stands.
-#[derive(Clone, Copy)]
-pub enum Entered {
-    To(Walk),
-    Ill,
-}
-
-// Whether a child of an open node is wanted, and of which: by its frame.
-#[derive(Drop)]
-enum Wanted {
-    Below(usize),
-    None,
 }
 
 // What a step met, and the walk after it. On `Done` and `Ill` the walk stays.
@@ -161,13 +144,6 @@ pub fn start(cells: &mut [u32; CELLS]) -> Walk
     }
 }
 
-// The difference, or 0 where it would be less.
-fn minus(a: usize, b: usize) -> usize
-    ensures { result ≡ a - b }
-{
-    if a < b { 0 } else { a - b }
-}
-
 // What comes next in the innermost frame.
 fn coming_in(f: Frame, w: Walk) -> Coming
     requires { w.top < frames }
@@ -181,7 +157,7 @@ fn coming_in(f: Frame, w: Walk) -> Coming
     }
     Coming::End(
         f.row,
-        minus(w.row, f.row),
+        w.row.saturating_sub(f.row),
         Walk {
             row: w.row,
             number: w.number,
@@ -276,36 +252,23 @@ fn meet(cells: &mut [u32; CELLS], count: usize, w: Walk, v: Visit) -> Walked
 }
 
 // The innermost open node that wants a child, from the frame `top` on: those inside it have ended.
-fn wanting(cells: &[u32; CELLS], top: usize) -> Wanted
+fn wanting(cells: &[u32; CELLS], top: usize) -> Option<usize>
     ensures { result ≡ wanted_from cells.now top }
 {
-    let mut at = top;
-    while at < FRAMES {
+    for at in top..FRAMES {
         let f = frame_at(cells, at);
         if f.next < f.parts {
-            return Wanted::Below(at);
+            return Some(at);
         }
         if f.kind == NO_KIND {
-            return Wanted::None;
+            return None;
         }
-        at += 1;
     }
-    Wanted::None
-}
-
-fn is_node(met: Met) -> bool
-    ensures { result ≡ is_node met }
-{
-    match met {
-        Met::Node(_) => true,
-        Met::End(_, _) => false,
-        Met::Done => false,
-        Met::Ill => false,
-    }
+    None
 }
 
 // Meets a row that is given by what it says, of rows that have `count` numbers: nodes that have ended before it are passed. Whoever has the rows
-// elsewhere than in a slice gives them one by one, and asks `has_ended` after the last.
+// elsewhere than in a slice gives them one by one, and asks `has_ended` after the last. It answers the walk after the row, or none where the row is ill.
 pub fn enter(
     cells: &mut [u32; CELLS],
     count: usize,
@@ -313,15 +276,12 @@ pub fn enter(
     kind: u32,
     dimension: u32,
     parts: u32,
-) -> Entered
+) -> Option<Walk>
     ensures { (result, cells.new) ≡ entering cells.old count w (row kind dimension parts) }
 {
-    let wanted = wanting(cells, w.top);
-    let Wanted::Below(top) = wanted else {
-        return Entered::Ill;
-    };
-    if w.row == LAST_ROW {
-        return Entered::Ill;
+    let top = wanting(cells, w.top)?;
+    if w.row == usize::MAX {
+        return None;
     }
     let v = Visit {
         row: w.row,
@@ -337,23 +297,17 @@ pub fn enter(
         top,
     };
     let s = meet(cells, count, here, v);
-    let met = s.met;
-    if is_node(met) {
-        let after = s.next;
-        return Entered::To(after);
+    match s.met {
+        Met::Node(_) => Some(s.next),
+        _ => None,
     }
-    Entered::Ill
 }
 
 // Whether all that was opened has ended and no number is left.
 pub fn has_ended(cells: &[u32; CELLS], count: usize, w: Walk) -> bool
     ensures { result ≡ has_ended cells.now count w }
 {
-    let wanted = wanting(cells, w.top);
-    match wanted {
-        Wanted::Below(_) => false,
-        Wanted::None => w.number == count,
-    }
+    wanting(cells, w.top).is_none() && w.number == count
 }
 
 // The node of a row below a parent.
@@ -387,15 +341,11 @@ fn step_in(nodes: &[u32], count: usize, cells: &mut [u32; CELLS], w: Walk, paren
 {
     if w.row < store::node_room(nodes) {
         let v = visit_at(nodes, w, parent);
-        let entered = enter(cells, count, w, v.kind, v.dimension, v.parts);
-        match entered {
-            Entered::To(after) => {
-                return Walked {
-                    met: Met::Node(v),
-                    next: after,
-                };
-            }
-            Entered::Ill => {}
+        if let Some(next) = enter(cells, count, w, v.kind, v.dimension, v.parts) {
+            return Walked {
+                met: Met::Node(v),
+                next,
+            };
         }
     }
     Walked {

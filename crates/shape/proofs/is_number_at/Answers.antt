@@ -8,7 +8,7 @@ pub returns-then-text-end : goal.returns-then-text-end
 returns-then-text-end c = number_off _ _ _ _ _ c.start_at-start.ensures c.length_at.ensures c.if-text-end.true
 
 pub returns-then-is_plain : goal.returns-then-is_plain
-returns-then-is_plain c = number_in _ _ _ _ _ c.start_at-start.ensures c.length_at.ensures _ c.if-text-end.false (sym (plain_lexeme _ (sym c.is_plain.ensures ∙ c.if-is_plain.true)))
+returns-then-is_plain c = number_in _ _ _ _ _ c.start_at-start.ensures c.length_at.ensures _ c.if-text-end.false (c.if-is_plain.true ∙ sym (plain_lexeme _ (sym c.is_plain.ensures ∙ c.if-is_plain.true)))
 
-pub returns : goal.returns
-returns c = number_in _ _ _ _ _ c.start_at-start.ensures c.length_at.ensures _ c.if-text-end.false c.is_lexeme.ensures
+pub returns-else-is_plain : goal.returns-else-is_plain
+returns-else-is_plain c = number_in _ _ _ _ _ c.start_at-start.ensures c.length_at.ensures _ c.if-text-end.false c.is_lexeme.ensures

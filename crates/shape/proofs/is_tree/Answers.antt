@@ -10,11 +10,11 @@ use Rattle.shape.proofs.is_tree.Goals as goal
 pub loop-i-init : goal.loop-i-init
 loop-i-init c = giving_begin _ _ _ (length-replicate {A = ℕ} cells 0) c.start-w.ensures
 
-pub returns-in-Ill : goal.returns-in-Ill
-returns-in-Ill c = giving_ill c.loop-i.invariant _ (rw (c.kind_at.ensures, c.dimension_at.ensures, c.parts_at.ensures)) (omega (arith, c.loop-i-test.true, c.node_room-rows.ensures)) (omega (arith, c.loop-i-test.true)) c.enter-entered.ensures c.in-Ill.is
+pub returns-in_default : goal.returns-in_default
+returns-in_default c = giving_ill c.loop-i.invariant _ (rw (c.kind_at.ensures, c.dimension_at.ensures, c.parts_at.ensures)) (omega (arith, c.loop-i-test.true, c.node_room-i-end.ensures)) (omega (arith, c.loop-i-test.true)) c.enter-entered.ensures c.in_default.is
 
 pub loop-i-preserved : goal.loop-i-preserved
-loop-i-preserved c = giving_to c.loop-i.invariant _ (rw (c.kind_at.ensures, c.dimension_at.ensures, c.parts_at.ensures)) (omega (arith, c.loop-i-test.true, c.node_room-rows.ensures)) (omega (arith, c.loop-i-test.true)) c.enter-entered.ensures c.in-To.is
+loop-i-preserved c = giving_to c.loop-i.invariant _ (rw (c.kind_at.ensures, c.dimension_at.ensures, c.parts_at.ensures)) (omega (arith, c.loop-i-test.true, c.node_room-i-end.ensures)) (omega (arith, c.loop-i-test.true)) c.enter-entered.ensures c.in-Some.is
 
 pub returns : goal.returns
-returns c = c.has_ended.ensures ∙ giving_last c.loop-i.invariant (omega (arith, c.loop-i-test.false, c.node_room-rows.ensures))
+returns c = c.has_ended.ensures ∙ giving_last c.loop-i.invariant (omega (arith, c.loop-i-test.false, c.node_room-i-end.ensures))

@@ -13,4 +13,4 @@ returns-then-f-eq-NO_KIND c = rw (le-leb _ _ c.if-f.false, eq-eqb _ _ c.if-f-eq-
 
 pub returns : goal.returns
 unfolding coming_in
-returns c = rw (le-leb _ _ c.if-f.false, ne_eqb _ _ c.if-f-eq-NO_KIND.false, c.minus.ensures)
+returns c = rw (le-leb _ _ c.if-f.false, ne_eqb _ _ c.if-f-eq-NO_KIND.false, c.saturating_sub.ensures)

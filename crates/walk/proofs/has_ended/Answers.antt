@@ -1,12 +1,11 @@
--- `walk::has_ended` meets its contract: by whether a row is wanted.
-use mathlib.Core.Path.{sym, ◌∙◌}
+-- `walk::has_ended` meets its contract: the tests are the definition's.
 use Rattle.walk.specs.Walk.{has_ended}
 use Rattle.walk.proofs.has_ended.Goals as goal
 
-pub returns-in-Below : goal.returns-in-Below
+pub returns-then-is_none : goal.returns-then-is_none
 unfolding has_ended
-returns-in-Below c = rw (sym c.wanting-wanted.ensures ∙ c.in-Below.is)
+returns-then-is_none c = rw (← c.wanting.ensures, c.if-is_none.ensures)
 
-pub returns-in-None : goal.returns-in-None
+pub returns-else-is_none : goal.returns-else-is_none
 unfolding has_ended
-returns-in-None c = rw (sym c.wanting-wanted.ensures ∙ c.in-None.is)
+returns-else-is_none c = rw (← c.wanting.ensures, c.if-is_none.ensures, c.if-is_none.false)
