@@ -17,7 +17,7 @@ use Rattle.lists.proofs.Lists.{every_head, every_tail, every_mem}
 use Rattle.words.proofs.Words.{same_length}
 use Rattle.names.specs.Names.{spellings, meaning}
 use Rattle.names.specs.Table.{is_known}
-use Rattle.names.proofs.Table.{means_spelled}
+use Rattle.names.proofs.Table.{means_spelled, known_means}
 use Rattle.store.proofs.Rows.{close_in_length}
 use Rattle.token.specs.declared.Refusal.{Refusal}
 use Rattle.token_stream.specs.Stream.{Tk, open_tk, close_tk, comma_tk, none_tk, Tok, tok, Str, end, then, hd, tl, toks}
@@ -108,8 +108,9 @@ spellings_long = refl
 
 name_long : (w : List ℕ) → is_known (meaning w) ≡ true → 5 ≤ length w
 name_long w k =
-    let s = means_spelled w (meaning w) refl k in
-    let l : 5 ≤ length s.string = leb-true 5 (length s.string) (every_mem (λ row. leb 5 (length row.1)) spellings (meaning w, s.string) spellings_long s.row) in
+    let m = known_means w k in
+    let s = means_spelled w m.0 m.1 in
+    let l : 5 ≤ length s.string = leb-true 5 (length s.string) (every_mem (λ row. leb 5 (length row.1)) spellings (m.0, s.string) spellings_long s.row) in
     omega (arith, same_length w s.string s.same)
 
 -- ---- what rows cost: of the bytes passed, two for each row, and some that are left for the `(` of a child that has no name

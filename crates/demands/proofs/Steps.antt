@@ -1,5 +1,6 @@
 -- Every refusal of a reading comes from a step that was due, at a token that can be at fault for its number: one induction over the grammar.
 -- Assumes nothing.
+use Rattle.std.specs.Prelude.{Option, Some, None}
 use mathlib.Core.Path.{◌≡◌, refl, ap, subst}
 use mathlib.Core.Bool.{Bool, true, false, false≢true, cond, ◌||◌}
 use mathlib.Core.Logic.{inl, inr}
@@ -13,7 +14,6 @@ use borrow.Author.Tests.{eqb-true, eqb-false, leb-true, ltb-true, ltb-false}
 use Rattle.limits.specs.Limits.{depth_limit}
 use Rattle.scan.specs.Bytes.{is_ascii}
 use Rattle.names.specs.declared.Name.{Name}
-use Rattle.names.specs.declared.Ending.{Ending}
 use Rattle.kinds.specs.Kinds.{kind_point, kind_line_string, kind_polygon, kind_multi_point, kind_multi_line_string, kind_multi_polygon, kind_geometry_collection, dim_xy, has_z, has_m, width}
 use Rattle.lists.specs.Lists.{every}
 use Rattle.lists.proofs.Cases.{either, and_both}
@@ -279,10 +279,10 @@ module _ (N M : ℕ) (s₀ : Str) where
           either (is_empty_tok (hd s)) (λ h. HeadIn (ran h (tl s))) _ _ (λ f. empty_at_law c f)
           λ f. (let r = at_token 12 s (came_reached c) (λ b. not_opened_law (b, eqb-false (sort_of (hd s)) sort_open e) f) (at_paren c refl) (λ i z. at_paren c (bad_of i (12 ∷ []) z)) in wrong_at_law r.0 r.1)
 
-      ending_in : (k : ℕ) (s : Str) → K k → At os (header_due k) o s → sort_of (hd s) ≡ sort_word → (e : Ending) → ending (text_of (hd s)) ≡ e → HeadIn (run (header_ending k (hd s) e) s)
+      ending_in : (k : ℕ) (s : Str) → K k → At os (header_due k) o s → sort_of (hd s) ≡ sort_word → (e : Option ℕ) → ending (text_of (hd s)) ≡ e → HeadIn (run (header_ending k (hd s) e) s)
       unfolding run
-      ending_in k s i c w (Ending.Is d) q = opener_in k d (tl s) i (ending_taken c w q)
-      ending_in k s i c w Ending.No q =
+      ending_in k s i c w (Some d) q = opener_in k d (tl s) i (ending_taken c w q)
+      ending_in k s i c w None q =
           either (is_empty_word (text_of (hd s))) (λ p. HeadIn (run p s)) _ _ (λ e. opener_in k dim_xy s i (flat c (omega (arith, w)) λ v. e))
           λ e. wrong_at_law (came_reached c) (faulty (here (came_reached c)) (no_ending w q e) (at_header c refl))
 
@@ -297,11 +297,11 @@ module _ (N M : ℕ) (s₀ : Str) where
     abbrev Known : ℕ → Type 0
     Known k = is_kind k ≡ true
 
-    name_in : (os : List Open) (o : Out) (u : Due) (s : Str) → NameDue os u → At os u o s → Refusing N M s₀ os (hd s) 9 (tl s) → sort_of (hd s) ≡ sort_word → (n : Name) → meaning (text_of (hd s)) ≡ n → HeadIn Known os o (run (by_name (place_of (hd s)) n) (tl s))
+    name_in : (os : List Open) (o : Out) (u : Due) (s : Str) → NameDue os u → At os u o s → Refusing N M s₀ os (hd s) 9 (tl s) → sort_of (hd s) ≡ sort_word → (n : Option Name) → meaning (text_of (hd s)) ≡ n → HeadIn Known os o (run (by_name (place_of (hd s)) n) (tl s))
     unfolding run
-    name_in os o u s a c g w Name.Unknown i = wrong_at_law (next (came_reached c)) (faulty (here (came_reached c)) (no_name_law w i) g)
-    name_in os o u s a c g w (Name.Bare k) i = header_in Known os o k (tl s) (rw i at (name_known (text_of (hd s)))) (named_bare c a w i)
-    name_in os o u s a c g w (Name.Joined k d) i = opener_in Known os o k d (tl s) (and_both _ _ (rw i at (name_known (text_of (hd s))))).0 (named_joined c a w i)
+    name_in os o u s a c g w None i = wrong_at_law (next (came_reached c)) (faulty (here (came_reached c)) (no_name_law w i) g)
+    name_in os o u s a c g w (Some (Name.Bare k)) i = header_in Known os o k (tl s) (rw i at (name_known (text_of (hd s)))) (named_bare c a w i)
+    name_in os o u s a c g w (Some (Name.Joined k d)) i = opener_in Known os o k d (tl s) (and_both _ _ (rw i at (name_known (text_of (hd s))))).0 (named_joined c a w i)
 
     child_head_law : (os : List Open) (d : ℕ) (o : Out) (s : Str) → At (node kind_geometry_collection d ∷ os) part_due o s → HeadIn Known (node kind_geometry_collection d ∷ os) o (run child_head s)
     unfolding child_head run

@@ -1,15 +1,13 @@
 -- "The place is the start of the token at fault (a `+` counts as its start); for "no token", the NUL or the text's length.": which tokens
 -- can be at fault for which number, and at which place, as one table (document 01, "Reading" and "Refusal numbers"). A bad number that is taken has a place of
 -- its own (document 02).
-use Rattle.std.specs.Prelude.{◌≡◌, true, false, ◌⊎◌, List, [], ℕ, zero, suc, ◌<◌, length, get_or}
+use Rattle.std.specs.Prelude.{◌≡◌, true, false, ◌⊎◌, List, [], ℕ, zero, suc, ◌<◌, length, get_or, None}
 use Rattle.limits.specs.Limits.{text_limit, over_limit}
 use Rattle.scan.specs.Bytes.{nul, paren_open, paren_close, comma, is_ascii, is_inner, is_numberlike}
 use Rattle.scan.specs.Front.{part}
 use Rattle.number.specs.Grammar.{Float}
 use Rattle.refusals.specs.Refusals.{text_too_long, ill_formed_utf8, no_node_row, no_number_row, too_deep, non_ascii_root, no_root, unknown_name, no_header, unknown_header, not_opened, not_closed, no_x, no_y, no_z, no_m, no_child}
 use Rattle.utf8.specs.Utf8.{is_utf8, first_ill}
-use Rattle.names.specs.declared.Name.{Name}
-use Rattle.names.specs.declared.Ending.{Ending}
 use Rattle.lists.specs.Lists.{every}
 use Rattle.names.specs.Names.{meaning, ending, is_empty_word}
 use Rattle.token.specs.declared.Refusal.{Refusal}
@@ -37,10 +35,10 @@ pub data AtFault (t : Tok) : ℕ → ℕ → Type 0 where
   not_ascii : sort_of t ≡ sort_word → every is_ascii (text_of t) ≡ false → AtFault t non_ascii_root (place_of t)
   no_root_law : Other sort_word t → AtFault t no_root (place_of t)
   -- "Words are compared with the seven names [..]. Else refusal 9."
-  no_name_law : sort_of t ≡ sort_word → meaning (text_of t) ≡ Name.Unknown → AtFault t unknown_name (place_of t)
+  no_name_law : sort_of t ≡ sort_word → meaning (text_of t) ≡ None → AtFault t unknown_name (place_of t)
   -- "No token or a bad number: 10. [..] Another word: 11.": a bad number is only looked at here, and 10 keeps its start
   no_header_law : sort_of t < sort_open → AtFault t no_header (place_of t)
-  no_ending : sort_of t ≡ sort_word → ending (text_of t) ≡ Ending.No → is_empty_word (text_of t) ≡ false → AtFault t unknown_header (place_of t)
+  no_ending : sort_of t ≡ sort_word → ending (text_of t) ≡ None → is_empty_word (text_of t) ≡ false → AtFault t unknown_header (place_of t)
   -- "`EMPTY` gives no parts. Not `(`: 12." "anything but `)` gives 13"
   not_opened_law : Other sort_open t → is_empty_tok t ≡ false → AtFault t not_opened (place_of t)
   not_closed_law : Other sort_close t → AtFault t not_closed (place_of t)

@@ -1,11 +1,10 @@
 -- How a reading comes to the step that refuses: the steps of document 01's "Reading", one after the other, with the nodes that are open, the rows that are
 -- used and the tokens that are left. In each state the next token allows one step at most, beside the parts that are filled in.
-use Rattle.std.specs.Prelude.{◌≡◌, Bool, true, false, cond, ◌||◌, ◌⊎◌, List, [], ◌∷◌, ◌++◌, ℕ, ◌+◌, ◌<◌, ◌≤◌, eqb, length}
+use Rattle.std.specs.Prelude.{◌≡◌, Bool, true, false, cond, ◌||◌, ◌⊎◌, List, [], ◌∷◌, ◌++◌, ℕ, ◌+◌, ◌<◌, ◌≤◌, eqb, length, Some}
 use Rattle.refusals.specs.Refusals.{no_node_row, no_number_row, too_deep, non_ascii_root, no_root, unknown_name, no_header, unknown_header, not_opened, not_closed, no_x, no_y, no_z, no_m, no_child, nothing_after_plus, number_goes_wrong}
 use Rattle.limits.specs.Limits.{depth_limit}
 use Rattle.kinds.specs.Kinds.{kind_point, kind_line_string, kind_polygon, kind_multi_point, kind_multi_line_string, kind_multi_polygon, kind_geometry_collection, dim_xy, has_z, has_m, width}
 use Rattle.names.specs.declared.Name.{Name}
-use Rattle.names.specs.declared.Ending.{Ending}
 use Rattle.names.specs.Names.{meaning, ending, is_empty_word}
 use Rattle.store.specs.Rows.{Row, fresh_row, Span, span}
 use Rattle.token_stream.specs.Stream.{Tok, Str, hd, tl}
@@ -53,10 +52,10 @@ module _ (N M : ℕ) (s₀ : Str) where
   pub data Came : List Open → Due → Out → Str → Type 0 where
     begins : Came [] root_due (out [] []) s₀
     -- "Words are compared with the seven names [..], each alone or with `Z`, `M` or `ZM` joined"
-    named_bare : {os : List Open} {u : Due} {o : Out} {s : Str} {k : ℕ} → Came os u o s → NameDue os u → sort_of (hd s) ≡ sort_word → meaning (text_of (hd s)) ≡ Name.Bare k → Came os (header_due k) o (tl s)
-    named_joined : {os : List Open} {u : Due} {o : Out} {s : Str} {k d : ℕ} → Came os u o s → NameDue os u → sort_of (hd s) ≡ sort_word → meaning (text_of (hd s)) ≡ Name.Joined k d → Came os (paren_due k d) o (tl s)
+    named_bare : {os : List Open} {u : Due} {o : Out} {s : Str} {k : ℕ} → Came os u o s → NameDue os u → sort_of (hd s) ≡ sort_word → meaning (text_of (hd s)) ≡ Some (Name.Bare k) → Came os (header_due k) o (tl s)
+    named_joined : {os : List Open} {u : Due} {o : Out} {s : Str} {k d : ℕ} → Came os u o s → NameDue os u → sort_of (hd s) ≡ sort_word → meaning (text_of (hd s)) ≡ Some (Name.Joined k d) → Came os (paren_due k d) o (tl s)
     -- "Word `Z`, `M`, `ZM`: taken. Word `EMPTY` or a non-word: XY."
-    ending_taken : {os : List Open} {o : Out} {s : Str} {k d : ℕ} → Came os (header_due k) o s → sort_of (hd s) ≡ sort_word → ending (text_of (hd s)) ≡ Ending.Is d → Came os (paren_due k d) o (tl s)
+    ending_taken : {os : List Open} {o : Out} {s : Str} {k d : ℕ} → Came os (header_due k) o s → sort_of (hd s) ≡ sort_word → ending (text_of (hd s)) ≡ Some d → Came os (paren_due k d) o (tl s)
     flat : {os : List Open} {o : Out} {s : Str} {k : ℕ} → Came os (header_due k) o s → sort_open ≤ sort_of (hd s) → (sort_of (hd s) ≡ sort_word → is_empty_word (text_of (hd s)) ≡ true) → Came os (paren_due k dim_xy) o s
     -- "Children take the parent's dimension."
     nameless : {os : List Open} {o : Out} {s : Str} {k c d : ℕ} → Came (node k d ∷ os) part_due o s → Child (hd s) k c → Came (node k d ∷ os) (paren_due c d) o s

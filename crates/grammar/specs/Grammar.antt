@@ -1,7 +1,6 @@
 -- The grammar (document 01, "Reading"), as a reader of tokens. Above a definition stands in brackets the Rust function that it is.
-use Rattle.std.specs.Prelude.{Bool, false, cond, List, [], ◌∷◌, ◌++◌, ℕ, zero, suc, ◌+◌, eqb, ltb, length}
+use Rattle.std.specs.Prelude.{Bool, false, cond, List, [], ◌∷◌, ◌++◌, ℕ, zero, suc, ◌+◌, eqb, ltb, length, Option, Some, None}
 use Rattle.names.specs.declared.Name.{Name}
-use Rattle.names.specs.declared.Ending.{Ending}
 use Rattle.kinds.specs.Kinds.{kind_point, kind_line_string, kind_polygon, kind_multi_point, kind_multi_line_string, kind_multi_polygon, kind_geometry_collection, dim_xy, has_z, has_m}
 use Rattle.names.specs.Names.{meaning, ending, is_empty_word}
 use Rattle.scan.specs.Bytes.{is_ascii}
@@ -117,9 +116,9 @@ unfoldable pub opener : ℕ → ℕ → P Head
 opener k d = ask λ t. ret (opening k d t)
 
 -- [infer_geom_dimension] "Word `Z`, `M`, `ZM`: taken. Word `EMPTY` or a non-word: XY. Another word: 11."
-abbrev pub header_ending : ℕ → Tok → Ending → P Head
-header_ending k t (Ending.Is d) = ask λ z. opener k d
-header_ending k t Ending.No = cond (is_empty_word (text_of t)) (opener k dim_xy) (ret (wrong (refusal unknown_header (place_of t))))
+abbrev pub header_ending : ℕ → Tok → Option ℕ → P Head
+header_ending k t (Some d) = ask λ z. opener k d
+header_ending k t None = cond (is_empty_word (text_of t)) (opener k dim_xy) (ret (wrong (refusal unknown_header (place_of t))))
 
 -- "Header after a bare name: look at one token. No token or a bad number: 10."
 unfoldable pub header : ℕ → P Head
@@ -128,10 +127,10 @@ header k = look λ t.
     (cond (eqb (sort_of t) sort_word) (header_ending k t (ending (text_of t))) (opener k dim_xy))
 
 -- [from_word_and_tokens] "Else refusal 9." "After a joined name no header is looked for."
-abbrev pub by_name : ℕ → Name → P Head
-by_name p Name.Unknown = ret (wrong (refusal unknown_name p))
-by_name p (Name.Bare k) = header k
-by_name p (Name.Joined k d) = opener k d
+abbrev pub by_name : ℕ → Option Name → P Head
+by_name p None = ret (wrong (refusal unknown_name p))
+by_name p (Some (Name.Bare k)) = header k
+by_name p (Some (Name.Joined k d)) = opener k d
 
 -- [GeometryCollection::from_tokens] "Collection: a word (else 18), then any geometry with its own header"
 unfoldable pub child_head : P Head

@@ -1,5 +1,6 @@
 -- After an accepted root that ends in `)`, later bytes change nothing: the last token that the grammar takes stands in the text.
 -- Assumes nothing.
+use Rattle.std.specs.Prelude.{Option, Some, None}
 use mathlib.Core.Path.{◌≡◌, refl, ap, sym, ◌∙◌}
 use mathlib.Core.Bool.{Bool, true, false, cond}
 use mathlib.Core.Logic.{◌⊎◌, inl, inr}
@@ -11,7 +12,6 @@ use lib.ListN.{length, length-append}
 use borrow.Author.Tests.{eqb-true}
 use Rattle.scan.specs.Bytes.{paren_close, is_ascii}
 use Rattle.names.specs.declared.Name.{Name}
-use Rattle.names.specs.declared.Ending.{Ending}
 use Rattle.kinds.specs.Kinds.{kind_point, kind_line_string, kind_polygon, kind_multi_point, kind_multi_line_string, kind_multi_polygon, kind_geometry_collection, dim_xy}
 use Rattle.lists.specs.Lists.{every}
 use Rattle.names.specs.Names.{meaning, ending, is_empty_word}
@@ -111,14 +111,14 @@ unfolding header
 header_ends k z =
     λ t. last_cond HeadEnds (ltb (sort_of t) sort_open) t _ _ (λ e. tt) λ e. last_cond HeadEnds (eqb (sort_of t) sort_word) t _ _ (λ f. go t (ending (text_of t))) λ f. opener_ends k dim_xy t
   where
-    go : (t : Tok) (e : Ending) → Last HeadEnds t (header_ending k t e)
-    go t (Ending.Is d) = λ u. opener_ends k d u
-    go t Ending.No = last_cond HeadEnds (is_empty_word (text_of t)) t _ _ (λ e. opener_ends k dim_xy t) λ e. tt
+    go : (t : Tok) (e : Option ℕ) → Last HeadEnds t (header_ending k t e)
+    go t (Some d) = λ u. opener_ends k d u
+    go t None = last_cond HeadEnds (is_empty_word (text_of t)) t _ _ (λ e. opener_ends k dim_xy t) λ e. tt
 
-name_ends : (p : ℕ) (n : Name) (z : Tok) → Last HeadEnds z (by_name p n)
-name_ends p Name.Unknown z = tt
-name_ends p (Name.Bare k) z = header_ends k z
-name_ends p (Name.Joined k d) z = opener_ends k d z
+name_ends : (p : ℕ) (n : Option Name) (z : Tok) → Last HeadEnds z (by_name p n)
+name_ends p None z = tt
+name_ends p (Some (Name.Bare k)) z = header_ends k z
+name_ends p (Some (Name.Joined k d)) z = opener_ends k d z
 
 root_head_law : (z : Tok) → Last HeadEnds z root_head
 unfolding root_head

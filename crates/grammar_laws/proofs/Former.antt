@@ -2,6 +2,7 @@
 -- One induction over the grammar shows, of any map of refusals that leaves the grammar's own alone: over tokens whose bad numbers have mapped refusals a
 -- reader comes to the mapped answer.
 -- Assumes nothing.
+use Rattle.std.specs.Prelude.{Option, Some, None}
 use mathlib.Core.Path.{◌≡◌, refl, ap, sym, subst, ◌∙◌}
 use mathlib.Core.Bool.{Bool, true, false, false≢true, not, cond, ◌&&◌}
 use mathlib.Core.List.{List, []}
@@ -12,7 +13,6 @@ use lib.Dec.{eqb, leb, ltb}
 use lib.ListN.{length}
 use borrow.Author.Tests.{eqb-true, leb-true, not-true, ne_eqb}
 use Rattle.names.specs.declared.Name.{Name}
-use Rattle.names.specs.declared.Ending.{Ending}
 use Rattle.kinds.specs.Kinds.{kind_point, kind_line_string, kind_polygon, kind_multi_point, kind_multi_line_string, kind_multi_polygon, kind_geometry_collection, dim_xy, has_z, has_m}
 use Rattle.names.specs.Names.{meaning, ending, is_empty_word}
 use Rattle.scan.specs.Bytes.{is_ascii}
@@ -222,9 +222,9 @@ module _ (g : Refusal → Refusal) (keep : (e p : ℕ) → is_own e ≡ true →
   wrong_on : (e p : ℕ) → is_own e ≡ true → Same on_head (ret (wrong (refusal e p))) (ret (wrong (refusal e p)))
   wrong_on e p h = same_ret on_head _ (ap wrong (sym (keep e p h)))
 
-  ending_on : (k : ℕ) (t : Tok) (e : Ending) → Same on_head (header_ending k (on_tok t) e) (header_ending k t e)
-  ending_on k t (Ending.Is d) = same_ask on_head _ _ λ z. opener_on k d
-  ending_on k t Ending.No =
+  ending_on : (k : ℕ) (t : Tok) (e : Option ℕ) → Same on_head (header_ending k (on_tok t) e) (header_ending k t e)
+  ending_on k t (Some d) = same_ask on_head _ _ λ z. opener_on k d
+  ending_on k t None =
       let a = alike t in
       same_cond on_head _ _ _ _ _ _ (ap is_empty_word a.bytes) (opener_on k dim_xy) (rw a.place (wrong_on 11 (place_of t) refl))
 
@@ -235,10 +235,10 @@ module _ (g : Refusal → Refusal) (keep : (e p : ℕ) → is_own e ≡ true →
       same_cond on_head _ _ _ _ _ _ (ap (λ (j : ℕ). ltb j sort_open) a.sort) (rw a.place (wrong_on 10 (place_of t) refl))
       (same_cond on_head _ _ _ _ _ _ (ap (λ (j : ℕ). eqb j sort_word) a.sort) (rw a.bytes (ending_on k t (ending (text_of t)))) (opener_on k dim_xy)))
 
-  name_on : (p : ℕ) (n : Name) → Same on_head (by_name p n) (by_name p n)
-  name_on p Name.Unknown = wrong_on 9 p refl
-  name_on p (Name.Bare k) = header_on k
-  name_on p (Name.Joined k d) = opener_on k d
+  name_on : (p : ℕ) (n : Option Name) → Same on_head (by_name p n) (by_name p n)
+  name_on p None = wrong_on 9 p refl
+  name_on p (Some (Name.Bare k)) = header_on k
+  name_on p (Some (Name.Joined k d)) = opener_on k d
 
   child_head_law : Same on_head child_head child_head
   unfolding child_head

@@ -1,6 +1,7 @@
 -- What every reading comes to. The loops' count down never runs out: any two counts above a stream's size give the same answer.
 -- An answer's refusal is one of the table's, and its rows fit the rooms and the text. One induction over the grammar shows all of it.
 -- Assumes nothing.
+use Rattle.std.specs.Prelude.{Option, Some, None}
 use mathlib.Core.Path.{◌≡◌, refl, ap}
 use mathlib.Core.Bool.{Bool, true, false, cond}
 use mathlib.Core.List.{List, [], ◌∷◌, ◌++◌}
@@ -11,7 +12,6 @@ use lib.Dec.{eqb, ltb}
 use lib.ListN.{length, length-append}
 use borrow.Author.Tests.{eqb-true, ltb-true, ltb-false}
 use Rattle.names.specs.declared.Name.{Name}
-use Rattle.names.specs.declared.Ending.{Ending}
 use Rattle.kinds.specs.Kinds.{kind_point, kind_line_string, kind_polygon, kind_multi_point, kind_multi_line_string, kind_multi_polygon, kind_geometry_collection, dim_xy, has_z, has_m}
 use Rattle.names.specs.Names.{meaning, ending, is_empty_word}
 use Rattle.scan.specs.Bytes.{is_ascii}
@@ -188,9 +188,9 @@ module _ (text : List ℕ) (N M : ℕ) where
     wrong_alike : (e : ℕ) → is_refusal e ≡ true → (t : Tok) → TokIn text t → Alike HeadIn L (ret (wrong (refusal e (place_of t)))) (ret (wrong (refusal e (place_of t))))
     wrong_alike e g t a = alike_ret HeadIn L _ (record { number = g; place = place_in text t a })
 
-    ending_alike : (k : ℕ) (t : Tok) → TokIn text t → (e : Ending) → Alike HeadIn L (header_ending k t e) (header_ending k t e)
-    ending_alike k t a (Ending.Is d) = alike_ask HeadIn L _ _ λ z b. opener_alike k d
-    ending_alike k t a Ending.No = alike_cond HeadIn L (is_empty_word (text_of t)) _ _ _ _ (opener_alike k dim_xy) (wrong_alike 11 refl t a)
+    ending_alike : (k : ℕ) (t : Tok) → TokIn text t → (e : Option ℕ) → Alike HeadIn L (header_ending k t e) (header_ending k t e)
+    ending_alike k t a (Some d) = alike_ask HeadIn L _ _ λ z b. opener_alike k d
+    ending_alike k t a None = alike_cond HeadIn L (is_empty_word (text_of t)) _ _ _ _ (opener_alike k dim_xy) (wrong_alike 11 refl t a)
 
     header_alike : (k : ℕ) → Alike HeadIn L (header k) (header k)
     unfolding header
@@ -198,10 +198,10 @@ module _ (text : List ℕ) (N M : ℕ) where
         alike_look HeadIn L _ _ λ t a. alike_cond HeadIn L (ltb (sort_of t) sort_open) _ _ _ _ (wrong_alike 10 refl t a)
         (alike_cond HeadIn L (eqb (sort_of t) sort_word) _ _ _ _ (ending_alike k t a (ending (text_of t))) (opener_alike k dim_xy))
 
-    name_alike : (t : Tok) → TokIn text t → (n : Name) → Alike HeadIn L (by_name (place_of t) n) (by_name (place_of t) n)
-    name_alike t a Name.Unknown = wrong_alike 9 refl t a
-    name_alike t a (Name.Bare k) = header_alike k
-    name_alike t a (Name.Joined k d) = opener_alike k d
+    name_alike : (t : Tok) → TokIn text t → (n : Option Name) → Alike HeadIn L (by_name (place_of t) n) (by_name (place_of t) n)
+    name_alike t a None = wrong_alike 9 refl t a
+    name_alike t a (Some (Name.Bare k)) = header_alike k
+    name_alike t a (Some (Name.Joined k d)) = opener_alike k d
 
     child_head_law : Alike HeadIn L child_head child_head
     unfolding child_head

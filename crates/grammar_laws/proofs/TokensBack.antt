@@ -1,6 +1,7 @@
 -- The canonical text of a good tree, read with room, gives the tree's rows and number texts back.
 -- Each law is over any sort of part: what the reader g makes of what the writer f puts.
 -- Assumes nothing.
+use Rattle.std.specs.Prelude.{Option, Some}
 use mathlib.Core.Path.{◌≡◌, refl, ap, sym, ◌∙◌}
 use mathlib.Core.Bool.{Bool, true, false, cond}
 use mathlib.Core.List.{List, [], ◌∷◌, ◌++◌, flat_map, append_assoc, append-nil, map-append}
@@ -12,7 +13,6 @@ use borrow.Author.Tests.{lt-ltb}
 use Rattle.scan.specs.Bytes.{space, paren_open, paren_close, comma, is_ascii}
 use Rattle.words.specs.Words.{same_word}
 use Rattle.names.specs.declared.Name.{Name}
-use Rattle.names.specs.declared.Ending.{Ending}
 use Rattle.kinds.specs.Kinds.{kind_point, kind_line_string, kind_polygon, kind_multi_point, kind_multi_line_string, kind_multi_polygon, kind_geometry_collection, dim_xy, dim_xyz, dim_xym, dim_xyzm, has_z, has_m, width}
 use Rattle.lists.specs.Lists.{every}
 use Rattle.names.specs.Names.{names, endings, spellings, lookup, meaning, ending, is_empty_word, string_of}
@@ -183,7 +183,7 @@ empty_word_law = let l = empty_lettered empty_word is_empty in record { some_byt
 
 -- the name of a kind means that kind, alone
 abbrev IsName : ℕ → Type 0
-IsName k = meaning (string_of names k) ≡ Name.Bare k
+IsName k = meaning (string_of names k) ≡ Some (Name.Bare k)
 
 seven : IsName kind_point × IsName kind_line_string × IsName kind_polygon × IsName kind_multi_point × IsName kind_multi_line_string × IsName kind_multi_polygon × IsName kind_geometry_collection
 unfolding meaning lookup spellings flat_map same_word string_of
@@ -197,7 +197,7 @@ name_word k n = let l = name_lettered (string_of names k) (known k n) in record 
 
 -- the ending of a dimension but XY means that dimension, and is written behind a space
 record IsEnding (d : ℕ) : Type 0 where
-  means : ending (string_of endings d) ≡ Ending.Is d
+  means : ending (string_of endings d) ≡ Some d
   some_byte : 0 < length (string_of endings d)
   written : (r : List ℕ) → put_dimension d r ≡ space ∷ (string_of endings d ++ r)
 
@@ -215,7 +215,7 @@ zm_ending = record { means = refl; some_byte = omega arith; written = λ r. refl
 
 ending_word : (d : ℕ) → IsEnding d → IsWord (string_of endings d)
 ending_word d e =
-    let l = ending_lettered (string_of endings d) (λ z. let y : ◌≡◌ {A = ℕ} 0 1 = cc e.means in omega arith) in
+    let l = ending_lettered (string_of endings d) d e.means in
     record { some_byte = e.some_byte; no_number = l.no_number; inner = l.inner }
 
 opener_open : (k d p : ℕ) (s : List ℕ) → run (opener k d) (lex p (paren_open ∷ s)) ≡ ran (opens k d p) (lex (p + 1) s)
@@ -238,9 +238,9 @@ header_on : (k p : ℕ) (w : List ℕ) (s : Str) → run (header k) (then (tok p
 unfolding header run
 header_on k p w s = refl
 
-ending_on : (k d p : ℕ) (w : List ℕ) (s : Str) → ending w ≡ Ending.Is d → run (header k) (then (tok p (word_tk w)) s) ≡ run (opener k d) s
+ending_on : (k d p : ℕ) (w : List ℕ) (s : Str) → ending w ≡ Some d → run (header k) (then (tok p (word_tk w)) s) ≡ run (opener k d) s
 unfolding run
-ending_on k d p w s e = header_on k p w s ∙ ap (λ (x : Ending). run (header_ending k (tok p (word_tk w)) x) (then (tok p (word_tk w)) s)) e
+ending_on k d p w s e = header_on k p w s ∙ ap (λ (x : Option ℕ). run (header_ending k (tok p (word_tk w)) x) (then (tok p (word_tk w)) s)) e
 
 header_word : (k d p : ℕ) (s : List ℕ) → IsEnding d → Stop s → run (header k) (lex p (string_of endings d ++ s)) ≡ run (opener k d) (lex (adv p (string_of endings d)) s)
 header_word k d p s e st = rw (lex_word (string_of endings d) s p (ending_word d e) st) (ending_on k d p (string_of endings d) _ e.means)
@@ -280,9 +280,9 @@ stop_dimension d s st = go (eqb d dim_xy)
     go true = st
     go false = stop_blank _
 
-name_on : (p k : ℕ) (w : List ℕ) (s : Str) → meaning w ≡ Name.Bare k → run child_head (then (tok p (word_tk w)) s) ≡ run (header k) s
+name_on : (p k : ℕ) (w : List ℕ) (s : Str) → meaning w ≡ Some (Name.Bare k) → run child_head (then (tok p (word_tk w)) s) ≡ run (header k) s
 unfolding child_head run
-name_on p k w s e = ap (λ (n : Name). run (by_name p n) s) e
+name_on p k w s e = ap (λ (n : Option Name). run (by_name p n) s) e
 
 head_run : (k d p : ℕ) (s : List ℕ) → IsName k → Stop s → run child_head (lex p (string_of names k ++ put_dimension d s)) ≡ run (header k) (lex (adv p (string_of names k)) (put_dimension d s))
 head_run k d p s n st = rw (lex_word (string_of names k) (put_dimension d s) p (name_word k n) (stop_dimension d s st)) (name_on p k (string_of names k) _ n)

@@ -1,6 +1,7 @@
 -- Every accepted reading's store is well formed: what a part of the grammar adds to the rows and number rows is the rows and the number texts of
 -- one thing of its sort, whatever tokens it is fed. Stated over any sort of thing, so that one law serves every comma loop.
 -- Assumes nothing.
+use Rattle.std.specs.Prelude.{Option, Some, None}
 use mathlib.Core.Path.{◌≡◌, refl, ap, sym, ◌∙◌}
 use mathlib.Core.Bool.{Bool, true, false, cond, ◌&&◌, and-eq-true_iff}
 use mathlib.Core.List.{List, [], ◌∷◌, ◌++◌, flat_map, append_assoc, append-nil, map-append}
@@ -10,7 +11,6 @@ use lib.Dec.{eqb, ltb, leb}
 use lib.ListN.{length, length-append, length-map}
 use borrow.Author.Tests.{leb-true}
 use Rattle.names.specs.declared.Name.{Name}
-use Rattle.names.specs.declared.Ending.{Ending}
 use Rattle.kinds.specs.Kinds.{kind_point, kind_line_string, kind_polygon, kind_multi_point, kind_multi_line_string, kind_multi_polygon, kind_geometry_collection, dim_xy, has_z, has_m, width}
 use Rattle.lists.specs.Lists.{every}
 use Rattle.names.specs.Names.{spellings, lookup, meaning, ending, is_empty_word}
@@ -257,27 +257,27 @@ abbrev pub is_dimension : ℕ → Bool
 is_dimension d = leb d 3
 
 abbrev pub known_name : Name → Bool
-known_name Name.Unknown = true
 known_name (Name.Bare k) = is_kind k
 known_name (Name.Joined k d) = is_kind k && is_dimension d
 
-abbrev known_ending : Ending → Bool
-known_ending (Ending.Is d) = is_dimension d
-known_ending Ending.No = true
+-- what was found, if anything, passes the test
+abbrev pub found_is : {A : Type 0} → (A → Bool) → Option A → Bool
+found_is p None = true
+found_is p (Some a) = p a
 
-lookup_every : {A : Type 0} (p : A → Bool) (test : List ℕ → List ℕ → Bool) (other : A) (w : List ℕ) → p other ≡ true → (table : List (A × List ℕ)) → every (λ entry. p entry.0) table ≡ true → p (lookup test other table w) ≡ true
+lookup_every : {A : Type 0} (p : A → Bool) (test : List ℕ → List ℕ → Bool) (w : List ℕ) (table : List (A × List ℕ)) → every (λ entry. p entry.0) table ≡ true → found_is p (lookup test table w) ≡ true
 unfolding lookup
-lookup_every p test other w h [] e = h
-lookup_every p test other w h (entry ∷ table) e =
-    either (test w entry.1) (λ a. p a ≡ true) _ _ (λ z. every_head (λ x. p x.0) entry table e) λ z. lookup_every p test other w h table (every_tail (λ x. p x.0) entry table e)
+lookup_every p test w [] e = refl
+lookup_every p test w (entry ∷ table) e =
+    either (test w entry.1) (λ a. found_is p a ≡ true) _ _ (λ z. every_head (λ x. p x.0) entry table e) λ z. lookup_every p test w table (every_tail (λ x. p x.0) entry table e)
 
-pub name_known : (w : List ℕ) → known_name (meaning w) ≡ true
+pub name_known : (w : List ℕ) → found_is known_name (meaning w) ≡ true
 unfolding meaning spellings every flat_map
-name_known w = lookup_every known_name _ Name.Unknown w refl spellings refl
+name_known w = lookup_every known_name _ w spellings refl
 
-ending_known : (w : List ℕ) → known_ending (ending w) ≡ true
+ending_known : (w : List ℕ) → found_is is_dimension (ending w) ≡ true
 unfolding ending every
-ending_known w = lookup_every known_ending _ Ending.No w refl _ refl
+ending_known w = lookup_every is_dimension _ w _ refl
 
 -- a head of a known kind and dimension
 abbrev Known : Head → Type 0
@@ -294,14 +294,14 @@ unfolding header
 header_known k a =
     λ t. every_cond Known (ltb (sort_of t) sort_open) _ _ tt (every_cond Known (eqb (sort_of t) sort_word) _ _ (go t (ending (text_of t)) (ending_known (text_of t))) (opener_known k dim_xy a refl))
   where
-    go : (t : Tok) (e : Ending) → known_ending e ≡ true → Every Known (header_ending k t e)
-    go t (Ending.Is d) b = λ z. opener_known k d a b
-    go t Ending.No b = every_cond Known (is_empty_word (text_of t)) _ _ (opener_known k dim_xy a refl) tt
+    go : (t : Tok) (e : Option ℕ) → found_is is_dimension e ≡ true → Every Known (header_ending k t e)
+    go t (Some d) b = λ z. opener_known k d a b
+    go t None b = every_cond Known (is_empty_word (text_of t)) _ _ (opener_known k dim_xy a refl) tt
 
-by_name_known : (p : ℕ) (n : Name) → known_name n ≡ true → Every Known (by_name p n)
-by_name_known p Name.Unknown a = tt
-by_name_known p (Name.Bare k) a = header_known k a
-by_name_known p (Name.Joined k d) a = let b = (and-eq-true_iff (is_kind k) (is_dimension d)).0 a in opener_known k d b.0 b.1
+by_name_known : (p : ℕ) (n : Option Name) → found_is known_name n ≡ true → Every Known (by_name p n)
+by_name_known p None a = tt
+by_name_known p (Some (Name.Bare k)) a = header_known k a
+by_name_known p (Some (Name.Joined k d)) a = let b = (and-eq-true_iff (is_kind k) (is_dimension d)).0 a in opener_known k d b.0 b.1
 
 child_known : Every Known child_head
 unfolding child_head

@@ -1,5 +1,6 @@
 -- What stands after a name, return by return.
 -- Assumes nothing.
+use Rattle.std.specs.Prelude.{Option, Some, None}
 use mathlib.Core.Path.{◌≡◌, refl, sym, ap, ◌∙◌}
 use mathlib.Core.Bool.{Bool, true, false, cond}
 use mathlib.Core.List.{List}
@@ -10,7 +11,6 @@ use borrow.Author.Tests.{eq-eqb, ne_eqb, lt-ltb, le-ltb}
 use Rattle.kinds.specs.Kinds.{dim_xy}
 use Rattle.refusals.specs.Refusals.{not_opened, no_header, unknown_header, no_child, no_root, non_ascii_root}
 use Rattle.names.specs.declared.Name.{Name}
-use Rattle.names.specs.declared.Ending.{Ending}
 use Rattle.scan.specs.Bytes.{is_ascii}
 use Rattle.lists.specs.Lists.{every}
 use Rattle.names.specs.Names.{meaning, ending, is_empty_word}
@@ -157,13 +157,13 @@ module _ {text : List ℕ} {c : Cursor} (k : ℕ) {r : PassedOpen} (e : r ≡ pa
         record { is = looks text c e n u _ ∙ rw (← x.sort, le-ltb t.sort sort_open j, ne_eqb t.sort sort_word i) (held_empty text c e n u k dim_xy q).is }
 
     module _ (i : t.sort ≡ sort_word) where
-      pub header_dimension : {d : ℕ} {h : Head} → ending (text_of (next text c)) ≡ Ending.Is d → MetHead text (opener k d) (cursor_at t.at) h → MetHead text (header k) c h
+      pub header_dimension : {d : ℕ} {h : Head} → ending (text_of (next text c)) ≡ Some d → MetHead text (opener k d) (cursor_at t.at) h → MetHead text (header k) c h
       unfolding header
       header_dimension q m =
           let x = held_tells text c e n u in
           record { is = looks text c e n u _ ∙ rw (← x.sort, le-ltb t.sort sort_open j, eq-eqb t.sort sort_word i, q) (takes text c e n u _ ∙ m.is) }
 
-      module _ (q : ending (text_of (next text c)) ≡ Ending.No) where
+      module _ (q : ending (text_of (next text c)) ≡ None) where
         pub header_empty : is_empty_word (text_of (next text c)) ≡ true → MetHead text (header k) c (Empty k dim_xy t.place t.at)
         unfolding header empty_at
         header_empty w =
@@ -191,7 +191,7 @@ module _ (text : List ℕ) (c : Cursor) {t : Taken} (u : t ≡ taken_at text c) 
   asks p = runs_ask text p c ∙ rw u (ap (run_at text (p (next text c))) (taken_next text c))
 
 module _ {text : List ℕ} {c : Cursor} {t : Taken} (u : t ≡ taken_at text c) where
-  pub child_word : {n : Name} {h : Head} → t.sort ≡ sort_word → n ≡ meaning (text_of (next text c)) → MetHead text (by_name t.place n) (cursor_at t.at) h → MetHead text child_head c h
+  pub child_word : {n : Option Name} {h : Head} → t.sort ≡ sort_word → n ≡ meaning (text_of (next text c)) → MetHead text (by_name t.place n) (cursor_at t.at) h → MetHead text child_head c h
   unfolding child_head
   child_word i q m = record { is = asks text c u _ ∙ rw (← (told text c u).sort, eq-eqb t.sort sort_word i, ← (told text c u).place, ← q) m.is }
 
@@ -204,7 +204,7 @@ module _ {text : List ℕ} {c : Cursor} {t : Taken} (u : t ≡ taken_at text c) 
   root_no i q f = record { is = asks text c u _ ∙ rw (← (told text c u).sort, ne_eqb t.sort sort_word i, (told text c u).refuses no_root, q, f) (runs_ret text _ _) }
 
   module _ (i : t.sort ≡ sort_word) where
-    pub root_word : {n : Name} {h : Head} → every is_ascii (text_of (next text c)) ≡ true → n ≡ meaning (text_of (next text c)) → MetHead text (by_name t.place n) (cursor_at t.at) h → MetHead text root_head c h
+    pub root_word : {n : Option Name} {h : Head} → every is_ascii (text_of (next text c)) ≡ true → n ≡ meaning (text_of (next text c)) → MetHead text (by_name t.place n) (cursor_at t.at) h → MetHead text root_head c h
     unfolding root_head
     root_word a q m = record { is = asks text c u _ ∙ rw (← (told text c u).sort, eq-eqb t.sort sort_word i, a, ← (told text c u).place, ← q) m.is }
 

@@ -12,7 +12,7 @@ ghost use Rattle.grammar.specs.Grammar.{refusal, opener, header, by_name, child_
 ghost use Rattle.headings.specs.Heads.{MetHead, empty_at};
 
 use kinds::DIM_XY;
-use names::{Ending, Name};
+use names::Name;
 use refusals::{
     NO_CHILD, NO_HEADER, NO_ROOT, NON_ASCII_ROOT, NOT_OPENED, UNKNOWN_HEADER, UNKNOWN_NAME,
 };
@@ -95,8 +95,8 @@ fn header(text: &[u8], kind: u32, at: usize) -> Head
     let end = start + token.len;
     let word = &text[start..end];
     match names::ending_of(word) {
-        Ending::Is(dimension) => opener(text, kind, dimension, token.at),
-        Ending::No => {
+        Some(dimension) => opener(text, kind, dimension, token.at),
+        None => {
             if names::is_empty_word(word) {
                 Head::Empty(kind, DIM_XY, token.place, token.at)
             } else {
@@ -112,18 +112,20 @@ fn header(text: &[u8], kind: u32, at: usize) -> Head
     }
 }
 
-// What follows the word at `place` that means `name`.
-fn by_name(text: &[u8], place: usize, name: Name, at: usize) -> Head
+// What follows the word at `place` that means `name`, if anything.
+fn by_name(text: &[u8], place: usize, name: Option<Name>, at: usize) -> Head
     ensures { MetHead text.now (by_name place name) (cursor_at at) result }
 {
-    match name {
-        Name::Unknown => Head::Wrong(
+    let Some(name) = name else {
+        return Head::Wrong(
             Refusal {
                 number: UNKNOWN_NAME,
                 place,
             },
             Cursor::new(at),
-        ),
+        );
+    };
+    match name {
         Name::Bare(kind) => header(text, kind, at),
         Name::Joined(kind, dimension) => opener(text, kind, dimension, at),
     }

@@ -21,7 +21,7 @@ use Rattle.names.specs.Strings.{empty}
 use Rattle.lists.specs.Lists.{every}
 use Rattle.names.specs.Names.{names, lookup, front_row, front}
 use Rattle.names.specs.declared.Front.{Front}
-use Rattle.names.specs.declared.Front.TheVariants.{Begun, Other}
+use Rattle.std.specs.Prelude.{Option, Some, None}
 use Rattle.lists.proofs.Lists.{every_head, every_tail}
 use Rattle.infer_type.specs.declared.Inferred.{Inferred}
 use Rattle.refusals.specs.Refusals.{empty_without_space, neither_paren_nor_empty}
@@ -44,11 +44,11 @@ not_false false e = absurd (false≢true (sym e))
 abbrev is_kind : ℕ × List ℕ → Bool
 is_kind row = leb kind_point row.0 && leb row.0 kind_geometry_collection
 
-abbrev HasKind : Front → Type 0
-HasKind (Begun kind n) = (kind_point ≤ kind) × (kind ≤ kind_geometry_collection)
-HasKind Other = Unit {0}
+abbrev HasKind : Option Front → Type 0
+HasKind (Some name) = (kind_point ≤ name.kind) × (name.kind ≤ kind_geometry_collection)
+HasKind None = Unit {0}
 
-kinds : (w : List ℕ) (rows : List (ℕ × List ℕ)) → every is_kind rows ≡ true → HasKind (lookup starts_word Front.Other (map front_row rows) w)
+kinds : (w : List ℕ) (rows : List (ℕ × List ℕ)) → every is_kind rows ≡ true → HasKind (lookup starts_word (map front_row rows) w)
 unfolding lookup
 kinds w [] h = tt
 kinds w (row ∷ rows) h = choice HasKind (starts_word w row.1) (λ t. here) (λ t. kinds w rows (every_tail is_kind row rows h))
@@ -114,24 +114,24 @@ module _ (text : List ℕ) where
     unfolding end_at
     paren h = (h, eqb-true _ _ (not_false _ (first_fails is_no_paren text (trimmed_at text) h)))
 
-    in_range : (kind n : ℕ) → front (looked text) ≡ Begun kind n → (l : List ℕ) → InRange kind (dimension_in l)
-    in_range kind n e l = let k : HasKind (Begun kind n) = rw e at (front_kind_law (looked text)) in (k.0, k.1, dimension_small l)
+    in_range : (name : Front) → front (looked text) ≡ Some name → (l : List ℕ) → InRange name.kind (dimension_in l)
+    in_range name e l = let k : HasKind (Some name) = rw e at (front_kind_law (looked text)) in (k.0, k.1, dimension_small l)
 
     with_answer : Looked text (trimmed_at text) (end_at text) → Paren text (end_at text) → Answer text (with_paren (trimmed_at text) (looked text))
     unfolding with_paren
     with_answer k p = go (front (looked text)) refl
       where
-        go : (name : Front) → front (looked text) ≡ name → Answer text (inferred_as (trimmed_at text) name (dimension_in (behind_name name (looked text))))
-        go (Begun kind n) e = named_paren k p e (in_range kind n e _)
-        go Other e = no_name k (inl p) e
+        go : (found : Option Front) → front (looked text) ≡ found → Answer text (inferred_as (trimmed_at text) found (dimension_in (behind_name found (looked text))))
+        go (Some name) e = named_paren k p e (in_range name e _)
+        go None e = no_name k (inl p) e
 
     without_answer : Looked text (trimmed_at text) (end_at text) → NoParen text (end_at text) → Answer text (without_paren (trimmed_at text) (looked text))
     unfolding without_paren
     without_answer k p = go (has_word empty (looked text)) (has_word blank (before_word empty (looked text))) refl refl
       where
-        by_name : Spaced (looked text) → (name : Front) → front (looked text) ≡ name → Answer text (inferred_as (trimmed_at text) name (dimension_in (after_word blank (before_word empty (looked text)))))
-        by_name s (Begun kind n) e = named_empty k p s e (in_range kind n e _)
-        by_name s Other e = no_name k (inr (p, s)) e
+        by_name : Spaced (looked text) → (found : Option Front) → front (looked text) ≡ found → Answer text (inferred_as (trimmed_at text) found (dimension_in (after_word blank (before_word empty (looked text)))))
+        by_name s (Some name) e = named_empty k p s e (in_range name e _)
+        by_name s None e = no_name k (inr (p, s)) e
 
         go : (has_empty has_space : Bool) → has_word empty (looked text) ≡ has_empty → has_word blank (before_word empty (looked text)) ≡ has_space
             → Answer text (cond (not has_empty) (refused neither_paren_nor_empty (trimmed_at text)) (cond (not has_space) (refused empty_without_space (trimmed_at text)) (inferred_as (trimmed_at text) (front (looked text)) (dimension_in (after_word blank (before_word empty (looked text)))))))

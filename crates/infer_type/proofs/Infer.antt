@@ -17,6 +17,7 @@ use Rattle.utf8.specs.Utf8.{first_ill}
 use Rattle.names.specs.Strings.{empty}
 use Rattle.names.specs.Names.{front}
 use Rattle.names.specs.declared.Front.{Front}
+use Rattle.std.specs.Prelude.{Option, Some, None}
 use Rattle.refusals.specs.Refusals.{text_too_long, ill_formed_utf8, unsupported_name, empty_without_space, neither_paren_nor_empty, non_ascii}
 use Rattle.infer_type.specs.Part.{is_looked, trimmed_at, end_at}
 use Rattle.infer_type.specs.Search.{first_word, before_word}
@@ -26,11 +27,11 @@ use Rattle.infer_type.proofs.Part.{stop_at, stop_none, stop_paren, stop_wide, st
 
 -- with a `(` after it
 module _ (place : ℕ) (l : List ℕ) where
-  pub opened_named : {kind n dim : ℕ} → front l ≡ Front.Begun kind n → dim ≡ dimension_in (take (length l - n) (drop n l)) → accepted kind dim ≡ with_paren place l
+  pub opened_named : {name : Front} {dim : ℕ} → front l ≡ Some name → dim ≡ dimension_in (take (length l - name.len) (drop name.len l)) → accepted name.kind dim ≡ with_paren place l
   unfolding with_paren
   opened_named e d = rw (d, tail_part, e)
 
-  pub opened_other : front l ≡ Front.Other → refused unsupported_name place ≡ with_paren place l
+  pub opened_other : front l ≡ None → refused unsupported_name place ≡ with_paren place l
   unfolding with_paren
   opened_other e = rw e
 
@@ -64,11 +65,11 @@ module _ (l : List ℕ) (e : ℕ) (is_empty : e ≡ first_word empty l) where
     unfolding without_paren
     spaced place n d = rw (has_some empty l (λ h. some (is_empty ∙ h)), has_some blank (before_word empty l) (λ h. n (space_at ∙ h ∙ before_length)), d, tail_part, width, ← space_at)
 
-    pub spaced_named : (place : ℕ) {kind n dim : ℕ} → (s ≡ e → ⊥) → dim ≡ dimension_in (take (length (part l 0 e) - (s + 1)) (drop (s + 1) (part l 0 e))) → front l ≡ Front.Begun kind n → accepted kind dim ≡ without_paren place l
-    spaced_named place {dim = dim} n d f = ap (λ (x : Front). inferred_as place x dim) (sym f) ∙ spaced place n d
+    pub spaced_named : (place : ℕ) {name : Front} {dim : ℕ} → (s ≡ e → ⊥) → dim ≡ dimension_in (take (length (part l 0 e) - (s + 1)) (drop (s + 1) (part l 0 e))) → front l ≡ Some name → accepted name.kind dim ≡ without_paren place l
+    spaced_named place {dim = dim} n d f = ap (λ (x : Option Front). inferred_as place x dim) (sym f) ∙ spaced place n d
 
-    pub spaced_other : (place : ℕ) {dim : ℕ} → (s ≡ e → ⊥) → dim ≡ dimension_in (take (length (part l 0 e) - (s + 1)) (drop (s + 1) (part l 0 e))) → front l ≡ Front.Other → refused unsupported_name place ≡ without_paren place l
-    spaced_other place {dim = dim} n d f = ap (λ (x : Front). inferred_as place x dim) (sym f) ∙ spaced place n d
+    pub spaced_other : (place : ℕ) {dim : ℕ} → (s ≡ e → ⊥) → dim ≡ dimension_in (take (length (part l 0 e) - (s + 1)) (drop (s + 1) (part l 0 e))) → front l ≡ None → refused unsupported_name place ≡ without_paren place l
+    spaced_other place {dim = dim} n d f = ap (λ (x : Option Front). inferred_as place x dim) (sym f) ∙ spaced place n d
 
 -- s is where the text starts, e where the scan from there stops
 module _ (text : List ℕ) (s e : ℕ) (is_start : s ≡ trimmed_at text) (is_stop : e ≡ first_not is_looked text s) where

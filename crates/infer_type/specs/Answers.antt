@@ -1,6 +1,6 @@
 -- What an answer of infer_type can be, each with its whole reason and the place, in terms of the text alone (document 01, "Refusal numbers" and "infer_type").
 -- The reasons come in order: 1, 2, 24, then without `(` 21 and 20, then 19.
-use Rattle.std.specs.Prelude.{ℕ, ◌≤◌, ◌<◌, ◌≡◌, true, false, ◌⊎◌, List, length, get_or, drop}
+use Rattle.std.specs.Prelude.{ℕ, ◌≤◌, ◌<◌, ◌≡◌, true, false, ◌⊎◌, List, length, get_or, drop, Some, None}
 use Rattle.limits.specs.Limits.{text_limit, over_limit}
 use Rattle.scan.specs.Runs.{Many}
 use Rattle.scan.specs.Front.{rest, part, begins}
@@ -8,7 +8,7 @@ use Rattle.utf8.specs.Utf8.{is_utf8, first_ill}
 use Rattle.scan.specs.Bytes.{paren_open, is_ascii}
 use Rattle.names.specs.Strings.{empty}
 use Rattle.names.specs.Names.{front}
-use Rattle.names.specs.declared.Front.TheVariants.{Begun, Other}
+use Rattle.names.specs.declared.Front.{Front}
 use Rattle.kinds.specs.Kinds.{kind_point, kind_geometry_collection, dim_xyzm}
 use Rattle.infer_type.specs.declared.Inferred.{Inferred}
 use Rattle.refusals.specs.Refusals.{text_too_long, ill_formed_utf8, unsupported_name, empty_without_space, neither_paren_nor_empty, non_ascii}
@@ -58,10 +58,10 @@ pub data Answer (text : List ℕ) : Inferred → Type 0 where
   wide : {start place : ℕ} → over_limit (length text) ≡ false → is_utf8 text ≡ true → Start text start → Wide text start place → Answer text (refused non_ascii place)
   neither : {start stop : ℕ} → Looked text start stop → NoParen text stop → has_word empty (part text start stop) ≡ false → Answer text (refused neither_paren_nor_empty start)
   no_space : {start stop : ℕ} → Looked text start stop → NoParen text stop → has_word empty (part text start stop) ≡ true → has_word blank (before_word empty (part text start stop)) ≡ false → Answer text (refused empty_without_space start)
-  no_name : {start stop : ℕ} → Looked text start stop → Paren text stop ⊎ (NoParen text stop × Spaced (part text start stop)) → front (part text start stop) ≡ Other → Answer text (refused unsupported_name start)
+  no_name : {start stop : ℕ} → Looked text start stop → Paren text stop ⊎ (NoParen text stop × Spaced (part text start stop)) → front (part text start stop) ≡ None → Answer text (refused unsupported_name start)
   -- "With `(`: it must begin with a name (19); in the rest, `ZM` before `Z` before `M`."
-  named_paren : {start stop kind n : ℕ} → Looked text start stop → Paren text stop → front (part text start stop) ≡ Begun kind n → InRange kind (dimension_in (drop n (part text start stop)))
-      → Answer text (accepted kind (dimension_in (drop n (part text start stop))))
+  named_paren : {start stop : ℕ} {name : Front} → Looked text start stop → Paren text stop → front (part text start stop) ≡ Some name → InRange name.kind (dimension_in (drop name.len (part text start stop)))
+      → Answer text (accepted name.kind (dimension_in (drop name.len (part text start stop))))
   -- "search between the first space and that EMPTY; then the name"
-  named_empty : {start stop kind n : ℕ} → Looked text start stop → NoParen text stop → Spaced (part text start stop) → front (part text start stop) ≡ Begun kind n → InRange kind (dimension_in (after_word blank (before_word empty (part text start stop))))
-      → Answer text (accepted kind (dimension_in (after_word blank (before_word empty (part text start stop)))))
+  named_empty : {start stop : ℕ} {name : Front} → Looked text start stop → NoParen text stop → Spaced (part text start stop) → front (part text start stop) ≡ Some name → InRange name.kind (dimension_in (after_word blank (before_word empty (part text start stop))))
+      → Answer text (accepted name.kind (dimension_in (after_word blank (before_word empty (part text start stop)))))

@@ -1,5 +1,5 @@
 -- What infer_type answers for any bytes (document 01, "infer_type").
-use Rattle.std.specs.Prelude.{ℕ, Bool, cond, not, List, [], ◌∷◌, ltb, length, drop}
+use Rattle.std.specs.Prelude.{ℕ, Bool, cond, not, List, [], ◌∷◌, ltb, length, drop, Option, Some, None}
 use Rattle.limits.specs.Limits.{text_limit, over_limit}
 use Rattle.scan.specs.Bytes.{space}
 use Rattle.utf8.specs.Utf8.{is_utf8, first_ill}
@@ -7,7 +7,6 @@ use Rattle.kinds.specs.Kinds.{dim_xy, dim_xyz, dim_xym, dim_xyzm}
 use Rattle.names.specs.Strings.{empty}
 use Rattle.names.specs.Names.{endings, string_of, front}
 use Rattle.names.specs.declared.Front.{Front}
-use Rattle.names.specs.declared.Front.TheVariants.{Begun, Other}
 use Rattle.infer_type.specs.declared.Inferred.{Inferred}
 use Rattle.refusals.specs.Refusals.{text_too_long, ill_formed_utf8, unsupported_name, empty_without_space, neither_paren_nor_empty, non_ascii}
 use Rattle.infer_type.specs.Part.{trimmed_at, end_at, wide_at, looked}
@@ -29,14 +28,14 @@ unfoldable pub dimension_in : List ℕ → ℕ
 dimension_in l = cond (has_ending dim_xyzm l) dim_xyzm (cond (has_ending dim_xyz l) dim_xyz (cond (has_ending dim_xym l) dim_xym dim_xy))
 
 -- the name's kind with the dimension, or "unsupported name"
-abbrev pub inferred_as : ℕ → Front → ℕ → Inferred
-inferred_as place (Begun kind n) dimension = accepted kind dimension
-inferred_as place Other dimension = refused unsupported_name place
+abbrev pub inferred_as : ℕ → Option Front → ℕ → Inferred
+inferred_as place (Some name) dimension = accepted name.kind dimension
+inferred_as place None dimension = refused unsupported_name place
 
 -- what stands after the name
-abbrev pub behind_name : Front → List ℕ → List ℕ
-behind_name (Begun kind n) l = drop n l
-behind_name Other l = l
+abbrev pub behind_name : Option Front → List ℕ → List ℕ
+behind_name (Some name) l = drop name.len l
+behind_name None l = l
 
 -- "With `(`: it must begin with a name (19); in the rest, `ZM` before `Z` before `M`."
 unfoldable pub with_paren : ℕ → List ℕ → Inferred

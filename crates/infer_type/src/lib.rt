@@ -7,7 +7,6 @@ ghost use Rattle.infer_type.specs.Part.{is_trimmed, is_looked, trimmed_at};
 ghost use Rattle.infer_type.specs.Search.{first_word};
 ghost use Rattle.infer_type.specs.Infer.{accepted, refused, dimension_in, with_paren, without_paren, infer_looked, infer_type};
 
-use names::Front;
 use refusals::{
     EMPTY_WITHOUT_SPACE, ILL_FORMED_UTF8, NEITHER_PAREN_NOR_EMPTY, NON_ASCII, TEXT_TOO_LONG,
     UNSUPPORTED_NAME,
@@ -136,8 +135,8 @@ fn infer_with_paren(part: &[u8], place: usize) -> Inferred
     ensures { result ≡ with_paren place part.now }
 {
     match names::front_of(part) {
-        Front::Begun(kind, len) => accept(kind, dimension_in(&part[len..])),
-        Front::Other => refuse(UNSUPPORTED_NAME, place),
+        Some(name) => accept(name.kind, dimension_in(&part[name.len..])),
+        None => refuse(UNSUPPORTED_NAME, place),
     }
 }
 
@@ -156,8 +155,8 @@ fn infer_without_paren(part: &[u8], place: usize) -> Inferred
     }
     let dimension = dimension_in(&before[space + 1..]);
     match names::front_of(part) {
-        Front::Begun(kind, _) => accept(kind, dimension),
-        Front::Other => refuse(UNSUPPORTED_NAME, place),
+        Some(name) => accept(name.kind, dimension),
+        None => refuse(UNSUPPORTED_NAME, place),
     }
 }
 

@@ -4,23 +4,22 @@ use Prim.Native.Nat.{ℕ, ◌-◌, ◌≤◌, ◌<◌}
 use native.Mathlib.Omega.{arith}
 use mathlib.Core.Path.{◌≡◌, refl, sym, ◌∙◌}
 use mathlib.Core.Bool.{Bool, true, false, cond, ◌&&◌, and-eq-true_iff, false≢true}
-use mathlib.Core.List.{List, [], ◌∷◌, map, flat_map}
+use mathlib.Core.List.{List, [], ◌∷◌, flat_map}
 use lib.Dec.{leb}
+use Rattle.std.specs.Prelude.{Some, None}
 use lib.ListN.{length}
 use borrow.Author.Tests.{leb-true, le-leb, lt-leb, eqb-true, ne_eqb}
 use Rattle.scan.specs.Bytes.{is_inner, is_numberlike, is_ascii}
 use Rattle.scan.specs.Front.{begins}
 use Rattle.words.specs.Words.{upper, is_lower, same_byte, same_word}
-use Rattle.names.specs.declared.Name.{Name}
-use Rattle.names.specs.declared.Ending.{Ending}
 use Rattle.names.specs.Strings.{empty}
 use Rattle.lists.specs.Lists.{every}
-use Rattle.names.specs.Names.{spellings, lookup, meaning, ending, is_empty_word, endings, ending_row}
+use Rattle.names.specs.Names.{spellings, lookup, meaning, ending, is_empty_word, endings}
 use Rattle.names.specs.Table.{is_known}
 use Rattle.names.specs.Letters.{is_letter}
 use Rattle.lists.proofs.Lists.{every_mem, every_head, every_weaker}
 use Rattle.names.proofs.Lookup.{found}
-use Rattle.names.proofs.Table.{means_spelled, not_known}
+use Rattle.names.proofs.Table.{means_spelled, not_known, known_means}
 
 -- words that are the same pass the same tests of their raised bytes
 pub same_every : (p : ℕ → Bool) (l m : List ℕ) → same_word l m ≡ true → every (λ b. p (upper b)) m ≡ every (λ b. p (upper b)) l
@@ -83,11 +82,12 @@ spellings_letters = refl
 
 pub name_lettered : (w : List ℕ) → is_known (meaning w) ≡ true → Lettered w
 name_lettered w k =
-    let s = means_spelled w (meaning w) refl k in
-    lettered w s.string s.same (every_mem (λ row. every is_letter row.1) spellings (meaning w, s.string) spellings_letters s.row)
+    let m = known_means w k in
+    let s = means_spelled w m.0 m.1 in
+    lettered w s.string s.same (every_mem (λ row. every is_letter row.1) spellings (m.0, s.string) spellings_letters s.row)
 
 -- a word that is not all ASCII is no name
-pub wide_unknown : (w : List ℕ) → every is_ascii w ≡ false → meaning w ≡ Name.Unknown
+pub wide_unknown : (w : List ℕ) → every is_ascii w ≡ false → meaning w ≡ None
 wide_unknown w h = not_known (meaning w) (λ k. false≢true (sym h ∙ (name_lettered w k).ascii))
 
 pub name_nonempty : (w : List ℕ) → is_known (meaning w) ≡ true → 0 < length w
@@ -95,15 +95,15 @@ unfolding meaning spellings flat_map lookup same_word
 name_nonempty [] k = absurd (false≢true k)
 name_nonempty (b ∷ w) k = omega arith
 
-endings_letters : every (λ row. every is_letter row.1) (map ending_row endings) ≡ true
+endings_letters : every (λ row. every is_letter row.1) endings ≡ true
 unfolding every
 endings_letters = refl
 
-pub ending_lettered : (w : List ℕ) → (ending w ≡ Ending.No → ⊥) → Lettered w
+pub ending_lettered : (w : List ℕ) (dim : ℕ) → ending w ≡ Some dim → Lettered w
 unfolding ending
-ending_lettered w ne =
-    let f = found same_word Ending.No w (map ending_row endings) ne in
-    lettered w f.string f.passes (every_mem (λ row. every is_letter row.1) (map ending_row endings) (ending w, f.string) endings_letters f.row)
+ending_lettered w dim e =
+    let f = found same_word w endings dim e in
+    lettered w f.string f.passes (every_mem (λ row. every is_letter row.1) endings (dim, f.string) endings_letters f.row)
 
 empty_letters : every is_letter empty ≡ true
 unfolding every

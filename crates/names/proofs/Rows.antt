@@ -8,16 +8,16 @@ use mathlib.Core.Logic.{◌⊎◌, ⊎_elim}
 use mathlib.Core.List.{List, [], ◌∷◌, map}
 use borrow.Author.Tests.{ne_eqb}
 use lib.Dec.{eqb}
+use Rattle.std.specs.Prelude.{Option, Some, None}
 use lib.ListN.{length, get_or, take, drop, drop_of_length-le}
 use lib.Seq.{length-take-le, get_or-take}
 use Rattle.lists.specs.Lists.{every}
 use Rattle.scan.specs.Bytes.{space}
 use Rattle.words.specs.Words.{upper, same_word, starts_word}
 use Rattle.words.proofs.Words.{starts_off, not_same}
-use Rattle.names.specs.declared.Ending.{Ending}
 use Rattle.names.specs.declared.Front.{Front}
 use Rattle.names.specs.Letters.{is_capital, letter_at, has_both}
-use Rattle.names.specs.Names.{names, endings, string_of, lookup, ending_row, ending, front_row, front}
+use Rattle.names.specs.Names.{names, endings, string_of, lookup, ending, front_row, front}
 use Rattle.names.proofs.Lookup.{miss, hit}
 use Rattle.names.proofs.Capitals.{no_case, byte_same, capital_at}
 
@@ -59,41 +59,41 @@ name_row (suc (suc (suc (suc (suc (suc zero)))))) h = record { stands = refl; si
 name_row (suc (suc (suc (suc (suc (suc (suc row))))))) h = absurd (omega arith)
 
 -- ---- a row of any table is passed over, or found
-module _ {A : Type 0} (test : List ℕ → List ℕ → Bool) (other : A) (f : ℕ × List ℕ → A × List ℕ) (w : List ℕ) {rows more : List (ℕ × List ℕ)} {entry : ℕ × List ℕ} (stands : rows ≡ entry ∷ more) where
-  row_passed : test w (f entry).1 ≡ false → lookup test other (map f more) w ≡ lookup test other (map f rows) w
-  row_passed t = sym (ap (λ (r : List (ℕ × List ℕ)). lookup test other (map f r) w) stands ∙ miss test other w (f entry) (map f more) t)
+module _ {A : Type 0} (test : List ℕ → List ℕ → Bool) (w : List ℕ) {rows more : List (A × List ℕ)} {entry : A × List ℕ} (stands : rows ≡ entry ∷ more) where
+  row_passed : test w entry.1 ≡ false → lookup test more w ≡ lookup test rows w
+  row_passed t = sym (ap (λ (r : List (A × List ℕ)). lookup test r w) stands ∙ miss test w entry more t)
 
-  row_found : test w (f entry).1 ≡ true → (f entry).0 ≡ lookup test other (map f rows) w
-  row_found t = sym (ap (λ (r : List (ℕ × List ℕ)). lookup test other (map f r) w) stands ∙ hit test other w (f entry) (map f more) t)
+  row_found : test w entry.1 ≡ true → Some entry.0 ≡ lookup test rows w
+  row_found t = sym (ap (λ (r : List (A × List ℕ)). lookup test r w) stands ∙ hit test w entry more t)
 
 -- ---- what the names from a row on tell of a word
-abbrev pub names_from : ℕ → List ℕ → Front
-names_from row w = lookup starts_word Front.Other (map front_row (drop row names)) w
+abbrev pub names_from : ℕ → List ℕ → Option Front
+names_from row w = lookup starts_word (map front_row (drop row names)) w
 
 pub names_start : (w : List ℕ) → names_from 0 w ≡ front w
 unfolding front
 names_start w = refl
 
-pub names_none : (w : List ℕ) (row : ℕ) → 7 ≤ row → Front.Other ≡ names_from row w
+pub names_none : (w : List ℕ) (row : ℕ) → 7 ≤ row → None ≡ names_from row w
 unfolding lookup
 names_none w row h = rw (drop_of_length-le names h)
 
 -- the word of no bytes begins with none
-pub no_front : (w : List ℕ) → length w ≡ 0 → Front.Other ≡ front w
+pub no_front : (w : List ℕ) → length w ≡ 0 → None ≡ front w
 unfolding front lookup starts_word
 no_front [] h = refl
 no_front (a ∷ l) h = absurd (omega (arith, h))
 
 module _ (w : List ℕ) (row : ℕ) (h : row < 7) where
   pub name_passed : starts_word w (name_at row) ≡ false → names_from (row + 1) w ≡ names_from row w
-  name_passed t = row_passed starts_word Front.Other front_row w (name_row row h).stands t
+  name_passed t = row_passed starts_word w (ap (map front_row) (name_row row h).stands) t
 
   -- for either of two reasons
   pub passed_either : {A B : Type 0} → A ⊎ B → (A → starts_word w (name_at row) ≡ false) → (B → starts_word w (name_at row) ≡ false) → names_from (row + 1) w ≡ names_from row w
   passed_either came f g = name_passed (⊎_elim f g came)
 
-  pub name_found : starts_word w (name_at row) ≡ true → Front.Begun (row + 1) (get_or lengths row 0) ≡ names_from row w
-  name_found t = ap (Front.Begun (row + 1)) (sym (name_row row h).sized) ∙ row_found starts_word Front.Other front_row w (name_row row h).stands t
+  pub name_found : starts_word w (name_at row) ≡ true → Some (record { kind = row + 1; len = get_or lengths row 0 }) ≡ names_from row w
+  name_found t = rw (← (name_row row h).sized) (row_found starts_word w (ap (map front_row) (name_row row h).stands) t)
 
   -- a first letter of its own tells
   pub other_first : 0 < length w → get_or w 0 0 < 256 → (get_or (get_or padded row []) 0 0 ≡ no_case (get_or w 0 0) → ⊥) → starts_word w (name_at row) ≡ false
@@ -133,14 +133,14 @@ unfolding string_of
 no_ending n h = rw (ne_eqb n 0 (omega arith), ne_eqb n 1 (omega arith), ne_eqb n 2 (omega arith), ne_eqb n 3 (omega arith))
 
 -- ---- what the endings from a row on tell of a word
-abbrev pub endings_from : ℕ → List ℕ → Ending
-endings_from row w = lookup same_word Ending.No (map ending_row (drop row endings)) w
+abbrev pub endings_from : ℕ → List ℕ → Option ℕ
+endings_from row w = lookup same_word (drop row endings) w
 
 pub endings_start : (w : List ℕ) → endings_from 0 w ≡ ending w
 unfolding ending
 endings_start w = refl
 
-pub endings_none : (w : List ℕ) (row : ℕ) → 4 ≤ row → Ending.No ≡ endings_from row w
+pub endings_none : (w : List ℕ) (row : ℕ) → 4 ≤ row → None ≡ endings_from row w
 unfolding lookup
 endings_none w row h = rw (drop_of_length-le endings h)
 
@@ -163,7 +163,7 @@ both_same w (suc (suc (suc (suc row)))) h e = absurd (omega arith)
 
 module _ (w : List ℕ) (row : ℕ) (h : row < 4) where
   passed : same_word w (ending_at row) ≡ false → endings_from (row + 1) w ≡ endings_from row w
-  passed t = row_passed same_word Ending.No ending_row w (ending_row_law row h).stands t
+  passed t = row_passed same_word w (ending_row_law row h).stands t
 
   -- another length, or other letters, or neither
   pub ending_sized : (length w ≡ get_or ending_lengths row 0 → ⊥) → endings_from (row + 1) w ≡ endings_from row w
@@ -172,5 +172,5 @@ module _ (w : List ℕ) (row : ℕ) (h : row < 4) where
   pub ending_passed : length w ≡ get_or ending_lengths row 0 → has_both (get_or padded_endings row []) (letter_at w 0) (letter_at w 1) ≡ false → endings_from (row + 1) w ≡ endings_from row w
   ending_passed e t = passed (sym (both_same w row h e) ∙ t)
 
-  pub ending_found : length w ≡ get_or ending_lengths row 0 → has_both (get_or padded_endings row []) (letter_at w 0) (letter_at w 1) ≡ true → Ending.Is row ≡ endings_from row w
-  ending_found e t = row_found same_word Ending.No ending_row w (ending_row_law row h).stands (sym (both_same w row h e) ∙ t)
+  pub ending_found : length w ≡ get_or ending_lengths row 0 → has_both (get_or padded_endings row []) (letter_at w 0) (letter_at w 1) ≡ true → Some row ≡ endings_from row w
+  ending_found e t = row_found same_word w (ending_row_law row h).stands (sym (both_same w row h e) ∙ t)

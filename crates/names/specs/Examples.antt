@@ -1,19 +1,16 @@
 -- Worked examples of this crate's definitions, by computation.
-use Rattle.std.specs.Prelude.{ℕ, ◌≡◌, refl, Bool, true, false, not, ◌||◌, eqb}
+use Rattle.std.specs.Prelude.{ℕ, ◌≡◌, refl, Bool, true, false, not, ◌||◌, eqb, Option, Some, None, is_some}
 use mathlib.Core.List.{List, [], ◌∷◌, ◌++◌, map, flat_map}
 use Rattle.lists.specs.Lists.{passing, bytes_that, every, pairwise}
 use Rattle.scan.specs.Text.{bytes}
 use Rattle.words.specs.Words.{same_word, starts_word}
 use Rattle.names.specs.declared.Name.{Name}
-use Rattle.names.specs.declared.Ending.{Ending}
-use Rattle.names.specs.declared.Ending.TheVariants.{Is, No}
 use Rattle.names.specs.declared.Front.{Front}
-use Rattle.names.specs.declared.Front.TheVariants.{Begun, Other}
 use Rattle.names.specs.Names.{names, endings, string_of, spellings, lookup, meaning, ending, front, is_empty_word}
 use Rattle.names.specs.Table.{is_known, apart}
 use Rattle.names.specs.Letters.{is_letter, is_capital, letter_at, has_both, packed_of, four_at}
 
-means : List ℕ → Name → Type 0
+means : List ℕ → Option Name → Type 0
 means w name = meaning w ≡ name
 
 all : ℕ
@@ -23,48 +20,47 @@ all = 0
 is_unknown : List ℕ → Bool
 is_unknown w = not (is_known (meaning w))
 
-is_ending : Ending → Bool
-is_ending (Is d) = true
-is_ending No = false
+begun_with : ℕ → ℕ → Option Front
+begun_with kind len = Some (record { kind = kind; len = len })
 
 -- `point` is a POINT that a header may follow
-lower : means (bytes "point") (Name.Bare 1)
+lower : means (bytes "point") (Some (Name.Bare 1))
 unfolding all
 lower = refl
 
 -- `PoInTzM` is a POINT ZM
-mixed : means (bytes "PoInTzM") (Name.Joined 1 3)
+mixed : means (bytes "PoInTzM") (Some (Name.Joined 1 3))
 unfolding all
 mixed = refl
 
 -- `GEOMETRYCOLLECTIONM`, `MULTIPOINTZ`
-joined : (means (bytes "GEOMETRYCOLLECTIONM") (Name.Joined 7 2)) × (means (bytes "MULTIPOINTZ") (Name.Joined 4 1))
+joined : (means (bytes "GEOMETRYCOLLECTIONM") (Some (Name.Joined 7 2))) × (means (bytes "MULTIPOINTZ") (Some (Name.Joined 4 1)))
 unfolding all
 joined = (refl, refl)
 
 -- `LINEARRING` is a LINESTRING
-ring : means (bytes "LINEARRING") (Name.Bare 2)
+ring : means (bytes "LINEARRING") (Some (Name.Bare 2))
 unfolding all
 ring = refl
 
 -- `LinearRingZ` is unknown
-ring_z : means (bytes "LinearRingZ") Name.Unknown
+ring_z : means (bytes "LinearRingZ") None
 unfolding all
 ring_z = refl
 
 -- `POINTS`, `POIN`, `POINTMZ` and the empty word are unknown
-unknown : (means (bytes "POINTS") Name.Unknown) × (means (bytes "POIN") Name.Unknown) × (means (bytes "POINTMZ") Name.Unknown) × (means [] Name.Unknown)
+unknown : (means (bytes "POINTS") None) × (means (bytes "POIN") None) × (means (bytes "POINTMZ") None) × (means [] None)
 unfolding all
 unknown = (refl, refl, refl, refl)
 
 -- `zM` is an ending, and so is nothing; `mz` is none
-ends : (ending (bytes "zM") ≡ Ending.Is 3) × (ending [] ≡ Ending.Is 0) × (ending (bytes "mz") ≡ Ending.No)
+ends : (ending (bytes "zM") ≡ Some 3) × (ending [] ≡ Some 0) × (ending (bytes "mz") ≡ None)
 unfolding ending lookup same_word
 ends = (refl, refl, refl)
 
 -- `POINTEMPTY` begins with POINT, `LINEARRING` with none of the names
-begun : (front (bytes "POINTEMPTY") ≡ Front.Begun 1 5) × (front (bytes "LINEARRING") ≡ Front.Other)
-unfolding front lookup starts_word
+begun : (front (bytes "POINTEMPTY") ≡ begun_with 1 5) × (front (bytes "LINEARRING") ≡ None)
+unfolding front lookup starts_word begun_with
 begun = (refl, refl)
 
 -- `Empty`
@@ -109,9 +105,9 @@ unfolding spellings flat_map
 whole = refl
 
 -- a spelling is the beginning of another one only where both are the same name's, as POINT of POINTZ and POINTZ of POINTZM; of LINEARRING none is
-front_kind : Front → ℕ
-front_kind (Begun kind n) = kind
-front_kind Other = 0
+front_kind : Option Front → ℕ
+front_kind (Some name) = name.kind
+front_kind None = 0
 
 clear : Name × List ℕ → Name × List ℕ → Bool
 clear a b = apart a.1 b.1 || eqb (front_kind (front a.1)) (front_kind (front b.1))
@@ -127,15 +123,15 @@ unfolding string_of
 strings = (refl, refl)
 
 -- the seven names as fronts, each with its length
-fronts : (front (bytes "pointx") ≡ Front.Begun 1 5)
-    × (front (bytes "linestringx") ≡ Front.Begun 2 10)
-    × (front (bytes "polygonx") ≡ Front.Begun 3 7)
-    × (front (bytes "multipointx") ≡ Front.Begun 4 10)
-    × (front (bytes "multilinestringx") ≡ Front.Begun 5 15)
-    × (front (bytes "multipolygonx") ≡ Front.Begun 6 12)
-    × (front (bytes "geometrycollectionx") ≡ Front.Begun 7 18)
-    × (front (bytes "poin") ≡ Front.Other)
-unfolding front lookup starts_word
+fronts : (front (bytes "pointx") ≡ begun_with 1 5)
+    × (front (bytes "linestringx") ≡ begun_with 2 10)
+    × (front (bytes "polygonx") ≡ begun_with 3 7)
+    × (front (bytes "multipointx") ≡ begun_with 4 10)
+    × (front (bytes "multilinestringx") ≡ begun_with 5 15)
+    × (front (bytes "multipolygonx") ≡ begun_with 6 12)
+    × (front (bytes "geometrycollectionx") ≡ begun_with 7 18)
+    × (front (bytes "poin") ≡ None)
+unfolding front lookup starts_word begun_with
 fronts = (refl, refl, refl, refl, refl, refl, refl, refl)
 
 -- words near a name that are none: LINEARRING with each ending, `MZ`, an ending twice, a name cut short or with a byte before it
@@ -147,15 +143,15 @@ none = refl
 
 -- of all bytes: those that end POINT as an ending, those that are one alone, and the last letter of `ZM` and of EMPTY
 ending_bytes : (bytes_that (λ b. is_known (meaning (bytes "POINT" ++ b ∷ []))) ≡ 77 ∷ 90 ∷ 109 ∷ 122 ∷ [])
-    × (bytes_that (λ b. is_ending (ending (b ∷ []))) ≡ 77 ∷ 90 ∷ 109 ∷ 122 ∷ [])
-    × (bytes_that (λ b. is_ending (ending (90 ∷ b ∷ []))) ≡ 77 ∷ 109 ∷ [])
-    × (bytes_that (λ b. is_ending (ending (77 ∷ b ∷ []))) ≡ [])
+    × (bytes_that (λ b. is_some (ending (b ∷ []))) ≡ 77 ∷ 90 ∷ 109 ∷ 122 ∷ [])
+    × (bytes_that (λ b. is_some (ending (90 ∷ b ∷ []))) ≡ 77 ∷ 109 ∷ [])
+    × (bytes_that (λ b. is_some (ending (77 ∷ b ∷ []))) ≡ [])
     × (bytes_that (λ b. is_empty_word (bytes "EMPT" ++ b ∷ [])) ≡ 89 ∷ 121 ∷ [])
-unfolding all passing is_ending ending
+unfolding all passing ending
 ending_bytes = (refl, refl, refl, refl, refl)
 
 -- the four endings' dimensions
-ending_numbers : (ending (bytes "z") ≡ Ending.Is 1) × (ending (bytes "m") ≡ Ending.Is 2) × (ending (bytes "zm") ≡ Ending.Is 3)
+ending_numbers : (ending (bytes "z") ≡ Some 1) × (ending (bytes "m") ≡ Some 2) × (ending (bytes "zm") ≡ Some 3)
 unfolding ending lookup same_word
 ending_numbers = (refl, refl, refl)
 

@@ -1,11 +1,9 @@
 -- Which geometry a word names: the tables of names and endings, and what they make of a word.
-use Rattle.std.specs.Prelude.{ℕ, Bool, cond, eqb, length}
+use Rattle.std.specs.Prelude.{ℕ, Bool, cond, eqb, length, Option, Some, None}
 use mathlib.Core.List.{List, [], ◌∷◌, ◌++◌, map, flat_map}
 use Rattle.scan.specs.Text.{bytes}
 use Rattle.words.specs.Words.{same_word, starts_word}
 use Rattle.names.specs.declared.Name.{Name}
-use Rattle.names.specs.declared.Ending.{Ending}
-use Rattle.names.specs.declared.Ending.TheVariants.{Is, No}
 use Rattle.names.specs.declared.Front.{Front}
 use Rattle.kinds.specs.Kinds.{kind_point, kind_line_string, kind_polygon, kind_multi_point, kind_multi_line_string, kind_multi_polygon, kind_geometry_collection, dim_xy, dim_xyz, dim_xym, dim_xyzm}
 use Rattle.names.specs.Strings.{empty}
@@ -53,34 +51,31 @@ with_endings name = map (spelling name) endings
 unfoldable pub spellings : List (Name × List ℕ)
 spellings = flat_map with_endings names ++ extra ∷ []
 
--- what stands in a table beside the first string that the word passes the test with, or `other`
-unfoldable pub lookup : {A : Type 0} → (List ℕ → List ℕ → Bool) → A → List (A × List ℕ) → List ℕ → A
-lookup test other [] w = other
-lookup test other (row ∷ rows) w = cond (test w row.1) row.0 (lookup test other rows w)
+-- what stands in a table beside the first string that the word passes the test with, if any
+unfoldable pub lookup : {A : Type 0} → (List ℕ → List ℕ → Bool) → List (A × List ℕ) → List ℕ → Option A
+lookup test [] w = None
+lookup test (row ∷ rows) w = cond (test w row.1) (Some row.0) (lookup test rows w)
 
 -- "Words are compared with the seven names without regard to ASCII case, each alone or with `Z`, `M` or `ZM` joined; `LINEARRING` alone means LINESTRING. Else refusal 9."
-unfoldable pub meaning : List ℕ → Name
-meaning w = lookup same_word Name.Unknown spellings w
+unfoldable pub meaning : List ℕ → Option Name
+meaning w = lookup same_word spellings w
 
--- which of the four endings the word is
-abbrev pub ending_row : ℕ × List ℕ → Ending × List ℕ
-ending_row end = (Ending.Is end.0, end.1)
-
-unfoldable pub ending : List ℕ → Ending
-ending w = lookup same_word Ending.No (map ending_row endings) w
+-- the dimension of the ending that the word is, where it is one of the four
+unfoldable pub ending : List ℕ → Option ℕ
+ending w = lookup same_word endings w
 
 -- the name that the word begins with: its kind and length
 abbrev pub front_row : ℕ × List ℕ → Front × List ℕ
-front_row name = (Front.Begun name.0 (length name.1), name.1)
+front_row name = (record { kind = name.0; len = length name.1 }, name.1)
 
-unfoldable pub front : List ℕ → Front
-front w = lookup starts_word Front.Other (map front_row names) w
+unfoldable pub front : List ℕ → Option Front
+front w = lookup starts_word (map front_row names) w
 
 -- "its words, and EMPTY, in any ASCII case"
 abbrev pub is_empty_word : List ℕ → Bool
 is_empty_word w = same_word w empty
 
 -- the meaning of a kind's name with an ending after it
-abbrev pub after_name : ℕ → Ending → Name
-after_name kind (Is dim) = named kind dim
-after_name kind No = Name.Unknown
+abbrev pub after_name : ℕ → Option ℕ → Option Name
+after_name kind (Some dim) = Some (named kind dim)
+after_name kind None = None

@@ -1,10 +1,9 @@
 -- What it is for a word to be one of the spellings, for the theorem over the whole table.
-use Rattle.std.specs.Prelude.{ℕ, ◌≡◌, refl, Bool, true, false, not, ◌||◌, length}
+use Rattle.std.specs.Prelude.{ℕ, ◌≡◌, refl, Bool, true, not, ◌||◌, length, Option, is_some}
 use mathlib.Core.List.{List, [], ◌∷◌, flat_map, Memᴰ}
 use Rattle.lists.specs.Lists.{every, pairwise}
 use Rattle.words.specs.Words.{same_word, starts_word}
 use Rattle.names.specs.declared.Name.{Name}
-use Rattle.names.specs.declared.Name.TheVariants.{Unknown, Bare, Joined}
 use Rattle.names.specs.Names.{names, extra, spellings}
 
 -- w is, but for ASCII case, the string of a row of `spellings` that means this name
@@ -13,10 +12,8 @@ pub record IsSpelling (w : List ℕ) (name : Name) : Type 0 where
   pub row : Memᴰ (name, string) spellings
   pub same : same_word w string ≡ true
 
-abbrev pub is_known : Name → Bool
-is_known Unknown = false
-is_known (Bare kind) = true
-is_known (Joined kind dim) = true
+abbrev pub is_known : Option Name → Bool
+is_known means = is_some means
 
 -- no word is the strings of both rows
 abbrev pub differ : {A : Type 0} → A × List ℕ → A × List ℕ → Bool

@@ -45,28 +45,20 @@ const LINEARRING: [u8; 10] = *b"LINEARRING";
 
 pub const EMPTY: [u8; 5] = *b"EMPTY";
 
-// What a word means.
+// What a word that is a name means.
 #[derive(Clone, Copy)]
 pub enum Name {
-    Unknown,
     // A kind's name alone: a header may follow.
     Bare(u32),
     // A kind's name with a dimension's ending joined: no header follows.
     Joined(u32, u32),
 }
 
-// The dimension of an ending.
+// The name that a word begins with: its kind, and how many letters it has.
 #[derive(Clone, Copy)]
-pub enum Ending {
-    Is(u32),
-    No,
-}
-
-// The name that a word begins with: its kind and its length.
-#[derive(Clone, Copy)]
-pub enum Front {
-    Begun(u32, usize),
-    Other,
+pub struct Front {
+    pub kind: u32,
+    pub len: usize,
 }
 
 // ---- endings
@@ -89,8 +81,8 @@ fn has_both(letters: &[u8; ENDING_WIDTH], first: u8, second: u8) -> bool
     (first == letters[0]) & (second == letters[1])
 }
 
-// Which of the four endings `w` is.
-pub fn ending_of(w: &[u8]) -> Ending
+// The dimension of the ending that `w` is, where it is one of the four.
+pub fn ending_of(w: &[u8]) -> Option<u32>
     ensures { result ≡ ending w.now }
 {
     let first = letter_at(w, 0);
@@ -99,12 +91,12 @@ pub fn ending_of(w: &[u8]) -> Ending
     while row < ENDING_COUNT {
         if w.len() == ENDING_LENGTHS[row] as usize {
             if has_both(&ENDINGS[row], first, second) {
-                return Ending::Is(row as u32);
+                return Some(row as u32);
             }
         }
         row += 1;
     }
-    Ending::No
+    None
 }
 
 // Whether `w` begins with the first `length` letters.
@@ -191,12 +183,12 @@ fn first_of(letters: &[u8; NAME_WIDTH]) -> u8
     letters[0]
 }
 
-// The name that `w` begins with. No name begins with another. First letter and length are told before the other letters are compared.
-pub fn front_of(w: &[u8]) -> Front
+// The name that `w` begins with, if any. No name begins with another. First letter and length are told before the other letters are compared.
+pub fn front_of(w: &[u8]) -> Option<Front>
     ensures { result ≡ front w.now }
 {
     if w.len() == 0 {
-        return Front::Other;
+        return None;
     }
     let first = w[0] & NO_CASE;
     let mut row = 0;
@@ -205,41 +197,39 @@ pub fn front_of(w: &[u8]) -> Front
         if first_of(letters) == first {
             let length = NAME_LENGTHS[row] as usize;
             if has_letters(w, letters, length) {
-                return Front::Begun(row as u32 + KIND_POINT, length);
+                return Some(Front {
+                    kind: row as u32 + KIND_POINT,
+                    len: length,
+                });
             }
         }
         row += 1;
     }
-    Front::Other
+    None
 }
 
 // What the name of a kind means with `rest` after it.
-fn after_name(kind: u32, rest: &[u8]) -> Name
+fn after_name(kind: u32, rest: &[u8]) -> Option<Name>
     ensures { result ≡ after_name kind (ending rest.now) }
 {
     match ending_of(rest) {
-        Ending::Is(dim) => {
-            if dim == DIM_XY {
-                Name::Bare(kind)
-            } else {
-                Name::Joined(kind, dim)
-            }
-        }
-        Ending::No => Name::Unknown,
+        Some(DIM_XY) => Some(Name::Bare(kind)),
+        Some(dim) => Some(Name::Joined(kind, dim)),
+        None => None,
     }
 }
 
-// What `word` means: the name that it begins with and the ending that is left, or the extra word.
-pub fn name_of(word: &[u8]) -> Name
+// What `word` means, if anything: the name that it begins with and the ending that is left, or the extra word.
+pub fn name_of(word: &[u8]) -> Option<Name>
     ensures { result ≡ meaning word.now }
 {
     match front_of(word) {
-        Front::Begun(kind, len) => after_name(kind, &word[len..]),
-        Front::Other => {
+        Some(front) => after_name(front.kind, &word[front.len..]),
+        None => {
             if words::same_word(word, &LINEARRING) {
-                Name::Bare(KIND_LINESTRING)
+                Some(Name::Bare(KIND_LINESTRING))
             } else {
-                Name::Unknown
+                None
             }
         }
     }

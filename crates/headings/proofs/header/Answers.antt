@@ -23,12 +23,12 @@ overflow_add-end c = omega (arith, (told _ _ c.take-token.ensures).fits)
 pub slice_bounds-word-end : goal.slice_bounds-word-end
 slice_bounds-word-end c = omega (arith, (told _ _ c.take-token.ensures).fits)
 
-pub returns-in-Is : goal.returns-in-Is
-returns-in-Is c =
+pub returns-in-Some : goal.returns-in-Some
+returns-in-Some c =
     let e = rw c.new-cursor.ensures at c.pass_open-opened.ensures in
     let n = c.if-opened.false in
     let u = c.take-token.ensures in
-    header_dimension _ e n u c.if-token-lt-OPEN.false c.if-token-ne-WORD.false (sym (told_word ending (held_tells _ _ e n u) c.in-Is.ensures)) c.opener.ensures
+    header_dimension _ e n u c.if-token-lt-OPEN.false c.if-token-ne-WORD.false (sym (told_word ending (held_tells _ _ e n u) c.in-Some.ensures)) c.opener.ensures
 
 pub returns-then-is_empty_word : goal.returns-then-is_empty_word
 returns-then-is_empty_word c =
@@ -36,7 +36,7 @@ returns-then-is_empty_word c =
     let n = c.if-opened.false in
     let u = c.take-token.ensures in
     let x = held_tells _ _ e n u in
-    header_empty _ e n u c.if-token-lt-OPEN.false c.if-token-ne-WORD.false (sym (told_word ending x c.in-No.ensures)) (sym (told_word is_empty_word x c.is_empty_word.ensures) ∙ c.if-is_empty_word.true)
+    header_empty _ e n u c.if-token-lt-OPEN.false c.if-token-ne-WORD.false (sym (told_word ending x c.in-None.ensures)) (sym (told_word is_empty_word x c.is_empty_word.ensures) ∙ c.if-is_empty_word.true)
 
 pub returns-else-is_empty_word : goal.returns-else-is_empty_word
 returns-else-is_empty_word c =
@@ -44,4 +44,4 @@ returns-else-is_empty_word c =
     let n = c.if-opened.false in
     let u = c.take-token.ensures in
     let x = held_tells _ _ e n u in
-    header_word _ e n u c.if-token-lt-OPEN.false c.if-token-ne-WORD.false (sym (told_word ending x c.in-No.ensures)) (sym (told_word is_empty_word x c.is_empty_word.ensures) ∙ c.if-is_empty_word.false)
+    header_word _ e n u c.if-token-lt-OPEN.false c.if-token-ne-WORD.false (sym (told_word ending x c.in-None.ensures)) (sym (told_word is_empty_word x c.is_empty_word.ensures) ∙ c.if-is_empty_word.false)

@@ -23,12 +23,12 @@ slice_bounds-dimension_in-count c = omega (arith, space_fits _ _ c.find_word-emp
 pub slice_bounds-dimension_in-start : goal.slice_bounds-dimension_in-start
 slice_bounds-dimension_in-start c = omega (arith, space_fits _ _ c.find_word-empty.ensures c.if-empty-part.false _ c.find_word-space.ensures c.if-space-empty.false)
 
-pub returns-in-Begun : goal.returns-in-Begun
-returns-in-Begun c =
+pub returns-in-Some : goal.returns-in-Some
+returns-in-Some c =
     c.accept.ensures
-    ∙ spaced_named _ _ c.find_word-empty.ensures c.if-empty-part.false _ c.find_word-space.ensures _ c.if-space-empty.false c.dimension_in-dimension.ensures (sym c.front_of.ensures ∙ c.in-Begun.is)
+    ∙ spaced_named _ _ c.find_word-empty.ensures c.if-empty-part.false _ c.find_word-space.ensures _ c.if-space-empty.false c.dimension_in-dimension.ensures (sym c.front_of.ensures ∙ c.in-Some.is)
 
-pub returns-in-Other : goal.returns-in-Other
-returns-in-Other c =
-    c.refuse-in-Other.ensures
-    ∙ spaced_other _ _ c.find_word-empty.ensures c.if-empty-part.false _ c.find_word-space.ensures _ c.if-space-empty.false c.dimension_in-dimension.ensures (sym c.front_of.ensures ∙ c.in-Other.is)
+pub returns-in-None : goal.returns-in-None
+returns-in-None c =
+    c.refuse-in-None.ensures
+    ∙ spaced_other _ _ c.find_word-empty.ensures c.if-empty-part.false _ c.find_word-space.ensures _ c.if-space-empty.false c.dimension_in-dimension.ensures (sym c.front_of.ensures ∙ c.in-None.is)
