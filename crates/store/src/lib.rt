@@ -1,7 +1,7 @@
 // Rows in lent slices: nodes and numbers, as document 01's "The store" lays them out.
 #![tactic(auto)]
 
-ghost use Rattle.std.specs.Prelude.{◌≡◌, ◌≤◌, ◌<◌, length, pos};
+ghost use Rattle.std.specs.Prelude.{◌≡◌, ◌≤◌, ◌<◌, ◌+◌, ◌*◌, ◌/◌, IfSome, IfNone, length, pos};
 ghost use Rattle.store.specs.Rows.{node_width, number_width, node_room, number_room, places_of, open_row, close_row, put_row, put_span, cleared_to, kind_at, dimension_at, parts_at, node_column, span_start_at, span_length_at, cell};
 ghost use Rattle.store.specs.Answers.{Accepts, refused, Leaves};
 
@@ -39,6 +39,7 @@ const START: usize = 0;
 const LENGTH: usize = 1;
 
 // How many whole node rows the slice has.
+// Kept (2): this and `number_room` are one division each, by their own constants; calls of one function for both would be as long.
 pub fn node_room(nodes: &[u32]) -> usize
     ensures { result ≡ node_room nodes.now }
 {
@@ -52,27 +53,43 @@ pub fn number_room(numbers: &[u32]) -> usize
     numbers.len() / NUMBER_WIDTH
 }
 
-// How many places the first `rows` node rows take: all of them where there are fewer rows.
+// How many places the first `rows` rows of `WIDTH` numbers take: all of them where there are fewer rows.
+fn places<const WIDTH: usize>(slice: &[u32], rows: usize) -> usize
+    requires { 0 < WIDTH }
+    ensures value { result ≡ places_of WIDTH slice.now rows }
+    ensures upper_bound { result ≤ length slice.now }
+{
+    if rows <= slice.len() / WIDTH {
+        rows * WIDTH
+    } else {
+        slice.len()
+    }
+}
+
 pub fn node_places(nodes: &[u32], rows: usize) -> usize
     ensures value { result ≡ places_of node_width nodes.now rows }
     ensures upper_bound { result ≤ length nodes.now }
 {
-    if rows <= node_room(nodes) {
-        rows * NODE_WIDTH
-    } else {
-        nodes.len()
-    }
+    places::<NODE_WIDTH>(nodes, rows)
 }
 
-// The same of number rows.
 pub fn number_places(numbers: &[u32], rows: usize) -> usize
     ensures value { result ≡ places_of number_width numbers.now rows }
     ensures upper_bound { result ≤ length numbers.now }
 {
-    if rows <= number_room(numbers) {
-        rows * NUMBER_WIDTH
+    places::<NUMBER_WIDTH>(numbers, rows)
+}
+
+// Where a row of `WIDTH` numbers begins, if there is one.
+fn row_start<const WIDTH: usize>(slice: &[u32], row: usize) -> Option<usize>
+    requires { 0 < WIDTH }
+    ensures there { IfSome result (λ at. (row < length slice.now / WIDTH) × (at ≡ row * WIDTH) × (at + WIDTH ≤ length slice.now)) }
+    ensures none { IfNone result (length slice.now / WIDTH ≤ row) }
+{
+    if row < slice.len() / WIDTH {
+        Some(row * WIDTH)
     } else {
-        numbers.len()
+        None
     }
 }
 
@@ -81,20 +98,15 @@ pub fn number_places(numbers: &[u32], rows: usize) -> usize
 pub fn open_row(nodes: &mut [u32], row: usize, kind: u32, dimension: u32)
     ensures { nodes.new ≡ open_row nodes.old row kind dimension }
 {
-    if row < node_room(nodes) {
-        let at = row * NODE_WIDTH;
-        nodes[at + KIND] = kind;
-        nodes[at + DIMENSION] = dimension;
-        nodes[at + PARTS] = 0;
-    }
+    put_row(nodes, row, kind, dimension, 0);
 }
 
 // Closes a node row: its parts are counted.
 pub fn close_row(nodes: &mut [u32], row: usize, parts: u32)
     ensures { nodes.new ≡ close_row nodes.old row parts }
 {
-    if row < node_room(nodes) {
-        nodes[row * NODE_WIDTH + PARTS] = parts;
+    if let Some(at) = row_start::<NODE_WIDTH>(nodes, row) {
+        nodes[at + PARTS] = parts;
     }
 }
 
@@ -102,8 +114,7 @@ pub fn close_row(nodes: &mut [u32], row: usize, parts: u32)
 pub fn put_number(numbers: &mut [u32], row: usize, start: u32, length: u32)
     ensures { numbers.new ≡ put_span numbers.old row start length }
 {
-    if row < number_room(numbers) {
-        let at = row * NUMBER_WIDTH;
+    if let Some(at) = row_start::<NUMBER_WIDTH>(numbers, row) {
         numbers[at + START] = start;
         numbers[at + LENGTH] = length;
     }
@@ -113,8 +124,7 @@ pub fn put_number(numbers: &mut [u32], row: usize, start: u32, length: u32)
 pub fn put_row(nodes: &mut [u32], row: usize, kind: u32, dimension: u32, parts: u32)
     ensures { nodes.new ≡ put_row nodes.old row kind dimension parts }
 {
-    if row < node_room(nodes) {
-        let at = row * NODE_WIDTH;
+    if let Some(at) = row_start::<NODE_WIDTH>(nodes, row) {
         nodes[at + KIND] = kind;
         nodes[at + DIMENSION] = dimension;
         nodes[at + PARTS] = parts;
@@ -172,34 +182,33 @@ pub fn clear<T: Zero>(slice: &mut [T], from: usize)
     }
 }
 
-// The number in a column of a row, of rows of any width, or 0 where there is no such row.
-fn cell_at(slice: &[u32], width: usize, row: usize, column: usize) -> u32
-    requires { column < width }
-    ensures { result ≡ cell width slice.now row column }
+// The number in a column of a row of `WIDTH` numbers, or 0 where there is no such row.
+fn cell_at<const WIDTH: usize>(slice: &[u32], row: usize, column: usize) -> u32
+    requires { column < WIDTH }
+    ensures { result ≡ cell WIDTH slice.now row column }
 {
-    if row < slice.len() / width {
-        slice[row * width + column]
-    } else {
-        0
+    match row_start::<WIDTH>(slice, row) {
+        Some(at) => slice[at + column],
+        None => 0,
     }
 }
 
 pub fn kind_at(nodes: &[u32], row: usize) -> u32
     ensures { result ≡ kind_at nodes.now row }
 {
-    cell_at(nodes, NODE_WIDTH, row, KIND)
+    cell_at::<NODE_WIDTH>(nodes, row, KIND)
 }
 
 pub fn dimension_at(nodes: &[u32], row: usize) -> u32
     ensures { result ≡ dimension_at nodes.now row }
 {
-    cell_at(nodes, NODE_WIDTH, row, DIMENSION)
+    cell_at::<NODE_WIDTH>(nodes, row, DIMENSION)
 }
 
 pub fn parts_at(nodes: &[u32], row: usize) -> u32
     ensures { result ≡ parts_at nodes.now row }
 {
-    cell_at(nodes, NODE_WIDTH, row, PARTS)
+    cell_at::<NODE_WIDTH>(nodes, row, PARTS)
 }
 
 // The number in a column of a node row, for who asks for all NODE_WIDTH of them; 0 where there is no such column.
@@ -207,7 +216,7 @@ pub fn node_column(nodes: &[u32], row: usize, column: usize) -> u32
     ensures { result ≡ node_column nodes.now row column }
 {
     if column < NODE_WIDTH {
-        cell_at(nodes, NODE_WIDTH, row, column)
+        cell_at::<NODE_WIDTH>(nodes, row, column)
     } else {
         0
     }
@@ -216,13 +225,13 @@ pub fn node_column(nodes: &[u32], row: usize, column: usize) -> u32
 pub fn start_at(numbers: &[u32], row: usize) -> u32
     ensures { result ≡ span_start_at numbers.now row }
 {
-    cell_at(numbers, NUMBER_WIDTH, row, START)
+    cell_at::<NUMBER_WIDTH>(numbers, row, START)
 }
 
 pub fn length_at(numbers: &[u32], row: usize) -> u32
     ensures { result ≡ span_length_at numbers.now row }
 {
-    cell_at(numbers, NUMBER_WIDTH, row, LENGTH)
+    cell_at::<NUMBER_WIDTH>(numbers, row, LENGTH)
 }
 
 // A reader accepts: so many rows of both slices are used, and what lies after them is zeroed.

@@ -1,21 +1,7 @@
--- `store::open_row` meets its contract: with room its three stores are `open_row`, and without it nothing changes.
+-- `store::open_row` meets its contract: a whole row is put, with no parts.
 use mathlib.Core.Path.{sym, ◌∙◌}
-use native.Mathlib.Omega.{arith}
-use lib.ListN.{length-set}
-use Rattle.store.specs.Rows.{open_row}
-use Rattle.store.proofs.Cells.{put_out}
-use Rattle.store.proofs.Rows.{open_row_puts, put_row_in}
+use Rattle.store.proofs.Rows.{open_row_puts}
 use Rattle.store.proofs.open_row.Goals as goal
 
-pub bounds-nodes-at-then-row-node_room : goal.bounds-nodes-at-then-row-node_room
-bounds-nodes-at-then-row-node_room c = simp length-set (omega arith)
-
-pub bounds-nodes-at-then-row-node_room-2 : goal.bounds-nodes-at-then-row-node_room-2
-bounds-nodes-at-then-row-node_room-2 c = simp length-set (omega arith)
-
-pub returns-then-row-node_room : goal.returns-then-row-node_room
-returns-then-row-node_room c = put_row_in _ _ _ _ _ (omega arith) ∙ sym (open_row_puts _ _ _ _)
-
-pub returns-else-row-node_room : goal.returns-else-row-node_room
-unfolding open_row
-returns-else-row-node_room c = sym (put_out _ _ _ _ _ (omega arith))
+pub returns : goal.returns
+returns c = c.put_row.ensures ∙ sym (open_row_puts _ _ _ _)
