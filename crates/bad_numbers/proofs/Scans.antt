@@ -324,8 +324,10 @@ module _ (w : List ℕ) (at end : ℕ) (i : InWord w at end) where
   pub word_stops : opens_word (part w at (end + 1)) ≡ false → end ≡ at + longest opens_word (rest w at)
   word_stops e = word_is λ h. e
 
-  pub word_past : length w ≤ end → end ≡ at + longest opens_word (rest w at)
-  word_past h = word_is λ l. absurd (omega arith)
+  pub word_past : length w ≤ end → length w ≡ at + longest opens_word (rest w at)
+  word_past h =
+      let all : end ≡ at + longest opens_word (rest w at) = word_is λ l. absurd (omega arith) in
+      omega (arith, all, i.within)
 
 -- ---- a number: a sign, if there is one, and then a decimal or a word
 unfoldable opens_unsigned : List ℕ → Bool

@@ -21,15 +21,12 @@ fn word_end(w: &[u8], at: usize) -> usize
     requires { at ≤ length w.now }
     ensures { result ≡ at + longest opens_word (rest w.now at) }
 {
-    let mut end = at;
-    while end < w.len() {
-        let next = end + 1;
-        if !opens_word(&w[at..next]) {
+    for end in at..w.len() {
+        if !opens_word(&w[at..end + 1]) {
             return end;
         }
-        end = next;
     }
-    end
+    w.len()
 }
 
 // Where what stands at `at` can be no decimal any more.

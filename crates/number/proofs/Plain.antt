@@ -1,22 +1,22 @@
 -- Texts without an exponent and without a word: they are lexemes, and one pass that counts points and other bytes than digits tells them.
 -- Assumes nothing.
-use mathlib.Core.Path.{◌≡◌, refl, sym, ◌∙◌}
-use mathlib.Core.Bool.{Bool, true, false, cond, not, ◌||◌, ◌&&◌, or-true, and-true, and-false, and-eq-true_iff}
+use mathlib.Core.Path.{◌≡◌, refl, sym, ap, ap₂, ◌∙◌}
+use mathlib.Core.Bool.{Bool, true, false, cond, ◌||◌, ◌&&◌, or-true, and-true, and-false, and-eq-true_iff}
 use mathlib.Core.List.{List, [], ◌∷◌, ◌++◌}
-use Prim.Native.Nat.{ℕ, zero, suc, ◌+◌, ◌-◌, ◌≤◌, ◌<◌}
+use Prim.Native.Nat.{ℕ, suc, ◌+◌, ◌≤◌, ◌<◌}
 use native.Mathlib.Omega.{arith}
 use native.Mathlib.Numerals.{add-one}
-use lib.Dec.{eqb, leb, ltb}
+use lib.Dec.{leb, ltb}
 use lib.ListN.{length, get_or, take, drop, length-drop}
-use lib.Seq.{take-add, take-suc, drop-drop, get_or-drop}
-use borrow.Author.Tests.{ltb-true, ltb-false, lt-ltb, le-ltb, lt-leb, eq-eqb, ne_eqb, not-false}
+use lib.Seq.{take-suc, get_or-drop}
+use borrow.Author.Tests.{leb-true, ltb-true, ltb-false, lt-ltb, le-ltb, lt-leb, le-leb, eq-eqb, ne_eqb}
 use Rattle.lists.specs.Lists.{every}
-use Rattle.lists.proofs.Lists.{every_head, every_tail}
 use Rattle.scan.specs.Bytes.{is_digit, is_sign, is_point, point}
 use Rattle.scan.specs.Front.{rest, begins, after_one, after_all, is_nil}
-use Rattle.scan.proofs.Bytes.{or_none}
-use Rattle.scan.proofs.Front.{rest_in, rest_past, rest_zero}
-use Rattle.number.specs.Lexeme.{is_named, after_whole, has_digit, is_decimal, is_exponent, is_unsigned, is_lexeme, is_plain, DigitsAfter}
+use Rattle.scan.specs.Runs.{first_not, after_one_at}
+use Rattle.scan.proofs.Front.{rest_zero, nil_at}
+use Rattle.scan.proofs.Runs.{stop, past, not_before, not_past, moves, first_fails, one_on, one_off, one_end, one_not_past, rest_one, rest_run}
+use Rattle.number.specs.Lexeme.{is_named, after_whole, has_digit, is_decimal, is_exponent, is_unsigned, is_lexeme, is_plain}
 use Rattle.number.proofs.Equal.{nil_is, sign_digit, sign_point, point_digit}
 
 -- ---- what is plain is a lexeme
@@ -55,24 +55,6 @@ module _ {w : List ℕ} {at i : ℕ} {all : Bool} (h : ToldSoFar w at i all) whe
 
   pub four_told : 4 ≤ i → all ≡ every is_digit (take 4 (drop at w))
   four_told l = let e : i ≡ 4 = omega (arith, h.within) in rw e at h.told
-
--- digits after a byte
-pub no_digits : (w : List ℕ) (at : ℕ) → at < length w → DigitsAfter w at at
-unfolding every
-no_digits w at h =
-    let z : at - at ≡ 0 = omega arith in
-    record { from = omega arith; inside = h; digits = rw z }
-
--- more digits after those
-pub more_digits : {w : List ℕ} {at last : ℕ} (n : ℕ) → DigitsAfter w at last → last + n < length w → every is_digit (take n (drop (last + 1) w)) ≡ true → DigitsAfter w at (last + n)
-more_digits {w} {at} {last} n d h e =
-    let width : last + n - at ≡ (last - at) + n = omega (arith, d.from) in
-    let place : at + 1 + (last - at) ≡ last + 1 = omega (arith, d.from) in
-    record {
-      from = omega (arith, d.from);
-      inside = h;
-      digits = rw (width, take-add (last - at) n (drop (at + 1) w), every_append is_digit (take (last - at) (drop (at + 1) w)) (take n (drop (last - at) (drop (at + 1) w))), d.digits, drop-drop (last - at) (at + 1) w, place) e;
-    }
 
 -- ---- one pass
 -- what a pass over the bytes that are left comes to, where so many points and so many other bytes than digits were met, of n bytes in all;
@@ -189,64 +171,6 @@ pass_plain (b ∷ l) = go (is_sign b) refl
     go true s = pass_sign true 0 0 (suc (length l)) b l s refl ∙ before_point 0 1 (suc (length l)) l (omega arith)
     go false s = pass_bare true 0 0 (suc (length l)) b l s ∙ before_point 0 0 (suc (length l)) (b ∷ l) (omega arith)
 
--- digits are passed over
-pass_digits : (points others n k : ℕ) (l : List ℕ) → every is_digit (take k l) ≡ true → pass false points others n l ≡ pass false points others n (drop k l)
-pass_digits points others n zero l e = refl
-pass_digits points others n (suc k) [] e = refl
-pass_digits points others n (suc k) (b ∷ l) e = pass_digit false points others n b l (every_head is_digit b (take k l) e) ∙ pass_digits points others n k l (every_tail is_digit b (take k l) e)
-
--- ---- the loop
-pub record Passing (w : List ℕ) (points others i : ℕ) : Type 0 where
-  pub within : i ≤ length w
-  pub few : others ≤ i
-  pub fewer : points ≤ others
-  pub left : pass (eqb i 0) points others (length w) (rest w i) ≡ is_plain w
-
-pub pass_begins : (w : List ℕ) → Passing w 0 0 0
-pass_begins w = record { within = omega arith; few = omega arith; fewer = omega arith; left = rw (rest_zero w) (pass_plain w) }
-
-module _ {w : List ℕ} {points others i : ℕ} (h : Passing w points others i) where
-  pub pass_ends : length w ≤ i → (leb points 1 && ltb others (length w)) ≡ is_plain w
-  unfolding pass
-  pass_ends l = rw (rest_past w i l) at h.left
-
-  module _ (l : i < length w) where
-    byte : pass (eqb i 0) points others (length w) (get_or w i 0 ∷ rest w (i + 1)) ≡ is_plain w
-    byte = rw (rest_in w i l) at h.left
-
-    later : (k : ℕ) → eqb (k + 1) 0 ≡ false
-    later k = ne_eqb (k + 1) 0 (λ e. omega arith)
-
-    pub meets_digit : is_digit (get_or w i 0) ≡ true → Passing w points others (i + 1)
-    meets_digit t = record { within = omega arith; few = omega (arith, h.few); fewer = h.fewer; left = rw (later i) (sym (pass_digit (eqb i 0) points others (length w) (get_or w i 0) (rest w (i + 1)) t) ∙ byte) }
-
-    pub meets_sign : (not (is_sign (get_or w i 0)) || not (eqb i 0)) ≡ false → Passing w points (others + 1) (i + 1)
-    meets_sign s =
-        let both = or_none (not (is_sign (get_or w i 0))) (not (eqb i 0)) s in
-        let t : is_sign (get_or w i 0) ≡ true = not-false _ both.0 in
-        let first : eqb i 0 ≡ true = not-false _ both.1 in
-        record { within = omega arith; few = omega (arith, h.few); fewer = omega (arith, h.fewer); left = rw (later i) (sym (pass_sign (eqb i 0) points others (length w) (get_or w i 0) (rest w (i + 1)) t first) ∙ byte) }
-
-    pub meets_point : get_or w i 0 ≡ point → {last : ℕ} → DigitsAfter w i last → Passing w (points + 1) (others + 1) (last + 1)
-    unfolding rest
-    meets_point b {last} d =
-        let t : is_point (get_or w i 0) ≡ true = eq-eqb (get_or w i 0) point b in
-        let place : i + 1 + (last - i) ≡ last + 1 = omega (arith, d.from) in
-        let on : pass false (points + 1) (others + 1) (length w) (drop (i + 1) w) ≡ pass false (points + 1) (others + 1) (length w) (drop (last + 1) w) = pass_digits (points + 1) (others + 1) (length w) (last - i) (drop (i + 1) w) d.digits ∙ rw (drop-drop (last - i) (i + 1) w, place) in
-        record { within = omega (arith, d.inside); few = omega (arith, h.few, d.from); fewer = omega (arith, h.fewer); left = rw (later last) (sym on ∙ sym (pass_point (eqb i 0) points others (length w) (get_or w i 0) (rest w (i + 1)) t) ∙ byte) }
-
-    pub meets_other : is_digit (get_or w i 0) ≡ false → (get_or w i 0 ≡ point → ⊥) → (not (is_sign (get_or w i 0)) || not (eqb i 0)) ≡ true → false ≡ is_plain w
-    meets_other t p s = sym (pass_other (eqb i 0) points others (length w) (get_or w i 0) (rest w (i + 1)) t (ne_eqb (get_or w i 0) point p) (neither (is_sign (get_or w i 0)) (eqb i 0) s)) ∙ byte
-      where
-        neither : (a b : Bool) → (not a || not b) ≡ true → (a && b) ≡ false
-        neither true true e = sym e
-        neither true false e = refl
-        neither false b e = refl
-
--- the same counts, said otherwise
-pub passing_as : {w : List ℕ} {p o i p' o' i' : ℕ} → Passing w p o (i + 1) → p' ≡ p → o' ≡ o → i' ≡ i → Passing w p' o' (i' + 1)
-passing_as h p o i = rw (p, o, i) h
-
 -- a text of one byte
 pub alone : (w : List ℕ) → length w ≡ 1 → is_digit (get_or w 0 0) ≡ is_plain w
 unfolding pass
@@ -259,3 +183,60 @@ alone (b ∷ []) e = go (is_digit b) (is_point b) (is_sign b) ∙ pass_plain (b 
     go false false true = refl
     go false false false = refl
 alone (b ∷ a ∷ l) e = absurd (omega arith)
+
+or_false : (t : Bool) → (t || false) ≡ t
+or_false true = refl
+or_false false = refl
+
+-- ---- by where its parts end: digits, and perhaps a point and digits, behind a sign
+module _ (w : List ℕ) (first whole : ℕ) (sign : first ≡ after_one_at is_sign w 0) (digits : whole ≡ first_not is_digit w first) where
+  bare : rest w first ≡ after_one is_sign w
+  bare = ap (rest w) sign ∙ rest_one is_sign w 0 refl ∙ ap (after_one is_sign) (rest_zero w)
+
+  pub first_within : first ≤ length w
+  first_within = rw sign (one_not_past is_sign w 0 refl (omega arith))
+
+  pub whole_behind : first ≤ whole
+  whole_behind = rw digits (not_before is_digit w first first_within)
+
+  -- up to the end, one digit among them
+  parts : (point end : ℕ) → point ≡ after_one_at is_point w whole → end ≡ first_not is_digit w point → ((ltb first whole || ltb point end) && leb (length w) end) ≡ is_plain w
+  unfolding is_plain
+  parts point end p f =
+      let left : rest w point ≡ after_whole (after_one is_sign w) = ap (rest w) p ∙ rest_one is_point w whole refl ∙ ap (after_one is_point) (ap (rest w) digits ∙ rest_run is_digit w first ∙ ap (after_all is_digit) bare) in
+      ap₂ ◌&&◌ (ap₂ ◌||◌ (ap (ltb first) digits ∙ moves is_digit w first ∙ ap (begins is_digit) bare) (ap (ltb point) f ∙ moves is_digit w point ∙ ap (begins is_digit) left)) (nil_at w end ∙ ap is_nil (ap (rest w) f ∙ rest_run is_digit w point ∙ ap (after_all is_digit) left))
+
+  -- no more than digits
+  pub digits_only : length w ≤ whole → ltb first whole ≡ is_plain w
+  digits_only h =
+      let stays : whole ≡ first_not is_digit w whole = omega (arith, past is_digit w whole h, not_past is_digit w first, digits) in
+      sym (rw (le-ltb whole whole (omega arith), le-leb (length w) whole h) (and-true (ltb first whole || false) ∙ or_false (ltb first whole))) ∙ parts whole whole (one_end is_point w whole refl h) stays
+
+  module _ (h : whole < length w) where
+    -- then a byte that is no point
+    pub then_other : (get_or w whole 0 ≡ point → ⊥) → false ≡ is_plain w
+    then_other o =
+        let none : is_digit (get_or w whole 0) ≡ false = ap (λ (k : ℕ). is_digit (get_or w k 0)) digits ∙ first_fails is_digit w first (omega (arith, h, digits)) in
+        let stays : whole ≡ first_not is_digit w whole = sym (stop is_digit w whole h none) in
+        sym (rw (lt-leb (length w) whole h) (and-false (ltb first whole || ltb whole whole))) ∙ parts whole whole (one_off is_point w whole (ne_eqb _ point o)) stays
+
+    module _ (end : ℕ) (p : get_or w whole 0 ≡ point) (f : end ≡ first_not is_digit w (whole + 1)) where
+      pointed_parts : ((ltb first whole || ltb (whole + 1) end) && leb (length w) end) ≡ is_plain w
+      pointed_parts = parts (whole + 1) end (one_on is_point w whole (eq-eqb _ point p)) f
+
+      -- then a point, with a digit on one side of it at least
+      pub then_point : first + 1 < length w → leb (length w) end ≡ is_plain w
+      then_point some = go (leb (length w) end) refl (ltb first whole) refl ∙ pointed_parts
+        where
+          go : (t : Bool) → leb (length w) end ≡ t → (u : Bool) → ltb first whole ≡ u → leb (length w) end ≡ ((ltb first whole || ltb (whole + 1) end) && leb (length w) end)
+          go false e u l = rw e (sym (and-false (ltb first whole || ltb (whole + 1) end)))
+          go true e true l = rw (e, l)
+          go true e false l = rw (e, l, lt-ltb (whole + 1) end (omega (arith, leb-true (length w) end e, ltb-false first whole l, some)))
+
+    -- or alone
+    pub then_nothing : get_or w whole 0 ≡ point → length w ≤ first + 1 → false ≡ is_plain w
+    then_nothing p few =
+        let end = first_not is_digit w (whole + 1) in
+        let over : length w ≤ whole + 1 = omega (arith, whole_behind, few) in
+        let none : ((ltb first whole || ltb (whole + 1) end) && leb (length w) end) ≡ false = rw (le-ltb first whole (omega (arith, few, h)), le-ltb (whole + 1) end (omega (arith, past is_digit w (whole + 1) over, h))) in
+        sym none ∙ pointed_parts end p refl

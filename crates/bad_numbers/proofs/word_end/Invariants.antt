@@ -1,11 +1,6 @@
 -- What `bad_numbers::word_end` keeps true in its loops, and what falls.
-use Prim.Native.Nat.{◌-◌}
-use lib.ListN.{length}
 use Rattle.bad_numbers.proofs.Scans.{InWord}
 use Rattle.bad_numbers.proofs.word_end.Given as goal
 
 abbrev pub invariant-loop-end : goal.invariant-loop-end
 invariant-loop-end l = InWord l.w l.at l.end
-
-abbrev pub decreases-loop-end : goal.decreases-loop-end
-decreases-loop-end l = length l.w - l.end

@@ -1,49 +1,31 @@
--- `number::is_plain` meets its contract. The loop's invariant: a pass over what is left comes to what the whole text is.
-use mathlib.Core.Path.{sym, ◌∙◌}
-use Prim.Native.Nat.{◌≤◌}
-use native.Mathlib.Omega.{arith}
-use Rattle.number.proofs.Plain.{pass_begins, pass_ends, meets_digit, meets_sign, meets_point, meets_other, passing_as, alone}
+-- `number::is_plain` meets its contract.
+use Rattle.std.proofs.Common.{◌∙◌, sym, arith}
+use borrow.Author.Tests.{ltb-true, ltb-false, eqb-true}
+use Rattle.number.proofs.Plain.{alone, whole_behind, digits_only, then_other, then_point, then_nothing}
 use Rattle.number.proofs.is_plain.Goals as goal
-use Rattle.number.proofs.is_plain.Goals.{then-not-is_digit+then-b-eq46, then-not-is_digit+else-b-eq46+else-is_sign-i, else-not-is_digit}
+use Rattle.number.proofs.is_plain.Goals.{then-w-whole-eq46, else-w-whole-eq46}
 
-pub returns-then-len-eq1 : goal.returns-then-len-eq1
-returns-then-len-eq1 c = c.is_digit.ensures ∙ alone _ c.if-len-eq1.true
+pub returns-then-w-eq1 : goal.returns-then-w-eq1
+returns-then-w-eq1 c = c.is_digit.ensures ∙ alone _ c.if-w-eq1.true
 
-pub loop-i-init : goal.loop-i-init
-loop-i-init c = pass_begins _
+pub returns-then-w-whole : goal.returns-then-w-whole
+returns-then-w-whole c = digits_only _ _ _ c.after_sign-first.ensures c.digits_end-whole.ensures c.if-w-whole.true
 
-pub overflow_add-others : goal.overflow_add-others
-overflow_add-others c = let h = c.loop-i.invariant in omega (arith, h.few, c.loop-i-test.true)
+pub overflow_add-first : goal.overflow_add-first
+overflow_add-first c =
+    let behind = whole_behind _ _ _ c.after_sign-first.ensures c.digits_end-whole.ensures in
+    omega (arith, behind, c.if-w-whole.false, c.digits_end-whole.ensures)
 
-pub overflow_add-points : goal.overflow_add-points
-overflow_add-points c = let h = c.loop-i.invariant in omega (arith, h.few, h.fewer, c.loop-i-test.true)
-
-pub returns-then-is_sign-i : goal.returns-then-is_sign-i
-returns-then-is_sign-i c = meets_other c.loop-i.invariant c.loop-i-test.true (sym c.is_digit-in-loop-i.ensures ∙ c.if-not-is_digit.true) c.if-b-eq46.false (rw c.is_sign.ensures at c.if-is_sign-i.true)
-
--- by which arm control came
-pub loop-i-preserved : goal.loop-i-preserved
-loop-i-preserved c =
-    let h = c.loop-i.invariant in
-    let l = c.loop-i-test.true in
-    let digit = c.is_digit-in-loop-i.ensures in
-    elim c.if-not-is_digit.branch [
-      | then-not-is_digit+then-b-eq46 w ↦ passing_as (meets_point h l w.if-b-eq46.true w.pass_fours-i.ensures) w.points-is w.others-is w.i-is
-      | then-not-is_digit+else-b-eq46+else-is_sign-i w ↦ passing_as (meets_sign h l (rw w.is_sign.ensures at w.if-is_sign-i.false)) w.points-is w.others-is w.i-is
-      | else-not-is_digit w ↦ passing_as (meets_digit h l (sym digit ∙ w.if-not-is_digit.false)) w.points-is w.others-is w.i-is
+pub returns-then-first-w : goal.returns-then-first-w
+returns-then-first-w c =
+    elim c.if-w-whole-eq46.branch [
+      | then-w-whole-eq46 w ↦ then_point _ _ _ c.after_sign-first.ensures c.digits_end-whole.ensures c.if-w-whole.false _ w.if-w-whole-eq46.true c.digits_end.ensures (ltb-true _ _ (sym w.value-is ∙ c.if-first-w.true))
+      | else-w-whole-eq46 w ↦ absurd (w.if-w-whole-eq46.false (eqb-true _ _ (sym w.value-is ∙ c.if-first-w.true)))
     ]
 
-pub overflow_add-i : goal.overflow_add-i
-overflow_add-i c = let h = loop-i-preserved c in omega (arith, h.within)
-
-pub loop-i-smaller : goal.loop-i-smaller
-loop-i-smaller c =
-    let back : c.loop-i.i ≤ c.if-not-is_digit.i = elim c.if-not-is_digit.branch [
-      | then-not-is_digit+then-b-eq46 w ↦ omega (arith, w.pass_fours-i.ensures.from, w.i-is)
-      | then-not-is_digit+else-b-eq46+else-is_sign-i w ↦ omega (arith, w.i-is)
-      | else-not-is_digit w ↦ omega (arith, w.i-is)
-    ] in
-    omega (arith, back, c.loop-i-test.true)
-
-pub returns : goal.returns
-returns c = pass_ends c.loop-i.invariant c.loop-i-test.false
+pub returns-else-first-w : goal.returns-else-first-w
+returns-else-first-w c =
+    elim c.if-w-whole-eq46.branch [
+      | then-w-whole-eq46 w ↦ c.if-first-w.false ∙ then_nothing _ _ _ c.after_sign-first.ensures c.digits_end-whole.ensures c.if-w-whole.false w.if-w-whole-eq46.true (ltb-false _ _ (sym w.value-is ∙ c.if-first-w.false))
+      | else-w-whole-eq46 w ↦ c.if-first-w.false ∙ then_other _ _ _ c.after_sign-first.ensures c.digits_end-whole.ensures c.if-w-whole.false w.if-w-whole-eq46.false
+    ]
