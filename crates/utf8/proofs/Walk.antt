@@ -1,6 +1,6 @@
 -- `first_ill` by characters: one at the front and on past it, or none there. Only this file opens `walk`.
 -- Assumes nothing.
-use mathlib.Core.Path.{◌≡◌, refl, sym, ◌∙◌}
+use mathlib.Core.Path.{◌≡◌, refl, sym}
 use mathlib.Core.Bool.{Bool, true, false, cond, false≢true, and-eq-true_iff}
 use mathlib.Core.List.{List, [], ◌∷◌}
 use Prim.Native.Nat.{ℕ, zero, suc, ◌+◌, ◌≤◌, ◌<◌, suc-le-suc}
@@ -87,10 +87,6 @@ module _ (text : List ℕ) (i : ℕ) where
 
   pub on_ascii : i < length text → get_or text i 0 < 0x80 → (i + 1) + first_ill (rest text (i + 1)) ≡ i + first_ill (rest text i)
   on_ascii h k = on 1 (rw (rest_in text i h) (sym (width_ascii (get_or text i 0) (rest text (i + 1)) k))) (omega arith)
-
-  -- a step past a byte where what is known so far hangs on the greatest byte: where that is ASCII, all are
-  pub on_most : (from most more : ℕ) → i < length text → (most < 0x80 → i + first_ill (rest text i) ≡ from) → most ≤ more → get_or text i 0 ≤ more → more < 0x80 → (i + 1) + first_ill (rest text (i + 1)) ≡ from
-  on_most from most more h so_far m b k = on_ascii h (omega arith) ∙ so_far (omega arith)
 
   pub stop : 0 ≡ char_width (rest text i) → i ≡ i + first_ill (rest text i)
   stop e = omega (arith, no_character (rest text i) (sym e))

@@ -1,6 +1,10 @@
 -- What a character's first byte tells of its other bytes, read off the table.
-use Rattle.std.specs.Prelude.{ℕ, zero, suc, Bool, false, cond, List, [], ◌∷◌, length}
+use Rattle.std.specs.Prelude.{ℕ, zero, suc, Bool, false, cond, List, [], ◌∷◌, ltb, length}
 use Rattle.utf8.specs.Utf8.{Range, ◌‥◌, holds, table, fits}
+
+-- is the byte a character by itself
+abbrev pub is_ascii : ℕ → Bool
+is_ascii b = ltb b 0x80
 
 -- does the byte lie in the first range of the row
 abbrev pub leads : List Range → ℕ → Bool

@@ -2,9 +2,10 @@
 #![tactic(auto)]
 
 ghost use Rattle.std.specs.Prelude.{◌≡◌, true, ◌+◌, ◌≤◌, ◌<◌, length};
+ghost use Rattle.std.specs.List.{list_all, take_while};
 ghost use Rattle.scan.specs.Front.{rest, begins};
 ghost use Rattle.utf8.specs.Utf8.{holds, ◌‥◌, char_width, first_ill};
-ghost use Rattle.utf8.specs.Leads.{width_of, second_of};
+ghost use Rattle.utf8.specs.Leads.{is_ascii, width_of, second_of};
 
 // Bytes below this one are characters by themselves.
 const ASCII_END: u8 = 0x80;
@@ -69,15 +70,12 @@ fn width_at(text: &[u8], i: usize) -> usize
     let width = width_of(first);
     let mut low = second_low(first);
     let mut high = second_high(first);
-    let mut have = 1;
-    while have < width {
-        if byte_in(text, i + have, low, high) {
-            have += 1;
-            low = TAIL_LOW;
-            high = TAIL_HIGH;
-        } else {
+    for have in 1..width {
+        if !byte_in(text, i + have, low, high) {
             return 0;
         }
+        low = TAIL_LOW;
+        high = TAIL_HIGH;
     }
     width
 }
@@ -85,20 +83,18 @@ fn width_at(text: &[u8], i: usize) -> usize
 // How many bytes are tested for ASCII at once.
 const CHUNK: usize = 64;
 
-// Whether all bytes from `from` up to `end` are ASCII: then the greatest of them is. No byte ends the loop, so that many can be taken at once.
-fn all_ascii(text: &[u8], from: usize, end: usize) -> bool
-    requires { (from ≤ end) × (end ≤ length text.now) }
-    ensures { result ≡ true → end + first_ill (rest text.now end) ≡ from + first_ill (rest text.now from) }
+// Whether all bytes are ASCII: then the greatest of them is. No byte ends the fold, so that many can be taken at once.
+fn all_ascii(chunk: &[u8; CHUNK]) -> bool
+    ensures { result ≡ list_all is_ascii chunk.now }
 {
-    let mut most = 0;
-    let mut i = from;
-    while i < end {
-        if most < text[i] {
-            most = text[i];
-        }
-        i += 1;
-    }
-    most < ASCII_END
+    chunk.iter().fold(0, |most, b| most.max(*b)) < ASCII_END
+}
+
+// How many chunks at the front are all ASCII.
+fn ascii_chunks(chunks: &[[u8; CHUNK]]) -> usize
+    ensures { result ≡ length (take_while (λ chunk. list_all is_ascii chunk) chunks.now) }
+{
+    chunks.iter().take_while(|chunk| all_ascii(*chunk)).count()
 }
 
 // Where the chunks at the front that are all ASCII end. Past them bytes are looked at one by one: in a text with many wide characters
@@ -106,18 +102,12 @@ fn all_ascii(text: &[u8], from: usize, end: usize) -> bool
 fn ascii_front(text: &[u8]) -> usize
     ensures { (result ≤ length text.now) × (result + first_ill (rest text.now result) ≡ first_ill text.now) }
 {
-    let mut i = 0;
-    while CHUNK <= text.len() - i {
-        if all_ascii(text, i, i + CHUNK) {
-            i += CHUNK;
-        } else {
-            return i;
-        }
-    }
-    i
+    let (chunks, _) = text.as_chunks::<CHUNK>();
+    ascii_chunks(chunks) * CHUNK
 }
 
 // The first place where no whole character starts, or the end.
+// Kept (3): a turn goes on by the width that it reads in the text, which no range counts. std's `from_utf8` would leave `must-fail/surrogate` no table to turn.
 pub fn first_ill_formed(text: &[u8]) -> usize
     ensures { result ≡ first_ill text.now }
 {

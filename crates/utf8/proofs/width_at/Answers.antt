@@ -9,15 +9,12 @@ pub loop-have-init : goal.loop-have-init
 loop-have-init c =
     (omega arith, width_rest _ _ _ _ _ (search rules) c.width_of-width.ensures c.second_low-low.ensures c.second_high-high.ensures)
 
-pub overflow_add-have : goal.overflow_add-have
-overflow_add-have c = omega (arith, begins_in _ _ _ (sym c.byte_in.ensures ∙ c.if-byte_in.true))
-
 pub loop-have-preserved : goal.loop-have-preserved
 loop-have-preserved c =
-    (omega (arith, begins_in _ _ _ (sym c.byte_in.ensures ∙ c.if-byte_in.true)), more _ _ _ _ _ _ _ (omega arith) (omega arith) (sym c.byte_in.ensures ∙ c.if-byte_in.true) ∙ c.loop-have.invariant.1)
+    (omega (arith, begins_in _ _ _ (sym c.byte_in.ensures ∙ c.if-not-byte_in.false)), more _ _ _ _ _ _ _ (omega arith) (omega arith) (sym c.byte_in.ensures ∙ c.if-not-byte_in.false) ∙ c.loop-have.invariant.1)
 
-pub returns-else-byte_in : goal.returns-else-byte_in
-returns-else-byte_in c = lacks _ _ _ _ _ (omega arith) (sym c.byte_in.ensures ∙ c.if-byte_in.false) ∙ c.loop-have.invariant.1
+pub returns-then-not-byte_in : goal.returns-then-not-byte_in
+returns-then-not-byte_in c = lacks _ _ _ _ _ (omega arith) (sym c.byte_in.ensures ∙ c.if-not-byte_in.true) ∙ c.loop-have.invariant.1
 
 pub returns : goal.returns
 returns c = done _ _ _ _ _ (omega arith) ∙ c.loop-have.invariant.1

@@ -10,6 +10,3 @@ use Rattle.utf8.proofs.width_at.Given as goal
 abbrev pub invariant-loop-have : goal.invariant-loop-have
 invariant-loop-have l =
     (l.i + l.have ≤ length l.text) × (if_followed l.width (l.low ‥ l.high) (l.width - l.have) (rest l.text (l.i + l.have)) ≡ char_width (rest l.text l.i))
-
-abbrev pub decreases-loop-have : goal.decreases-loop-have
-decreases-loop-have l = l.width - l.have
