@@ -3,6 +3,7 @@
 use mathlib.Core.Path.{◌≡◌, refl, sym, ap, ◌∙◌}
 use mathlib.Core.Bool.{true, false, false≢true}
 use mathlib.Core.List.{List}
+use Rattle.std.specs.Prelude.{Ok, Err}
 use Prim.Native.Nat.{ℕ, ◌+◌, ◌<◌, ◌^◌}
 use native.Mathlib.Omega.{arith}
 use lib.ListN.{length}
@@ -18,9 +19,8 @@ use Rattle.grammar_laws.proofs.Loops as loops
 use Rattle.grammar_laws.proofs.Loops.{Loop}
 use Rattle.answers.specs.declared.State.{State}
 use Rattle.answers.specs.declared.Spot.{Spot}
-use Rattle.answers.specs.declared.Answer.{Answer}
-use Rattle.answers.specs.declared.Answer.TheVariants.{Read, Refused, Stopped}
-use Rattle.answers.specs.Reading.{spot, state, is_read, closed_at, closed_nodes, after_refusal, used_by, got_of, end_of, Met, Part, Reads, Fits, list_of, closed_of}
+use Rattle.answers.specs.declared.Unread.TheVariants.{Refused, Stopped}
+use Rattle.answers.specs.Reading.{Answer, spot, state, is_read, closed_at, closed_nodes, after_refusal, used_by, got_of, end_of, Met, Part, Reads, Fits, list_of, closed_of}
 use Rattle.answers.proofs.Parts.{closed_met, lost_met, comma_follows, other_follows}
 
 -- `parts` are read, the slices hold them, and the reader stands at q
@@ -59,13 +59,13 @@ module _ {text ns₀ ms₀ ns ms : List ℕ} {i : ℕ} {g : Part} {q₀ : Spot} 
     }
       where
         ends : (N M : ℕ) → node_room ns₀ ≡ N → number_room ms₀ ≡ M → (b : Answer) → a ≡ b → run (list_of i g N M (used_by (rows_in ns₀) (spans_in text ms₀) q₀.nodes q₀.numbers)) (stream text (cursor_at q₀.at)) ≡ ran (got_of (rows_in ns₁) (spans_in text ms₁) a) (stream text (end_of a))
-        ends N M f h (Read s) x = absurd (false≢true (sym n ∙ ap is_read x))
-        ends N M f h (Refused r c) x = rw x (loops.refusal (v.loop N M f h) (rw x at (child N M f h).is))
-        ends N M f h (Stopped r c) x = rw x (loops.stop (v.loop N M f h) (rw x at (child N M f h).is))
+        ends N M f h (Ok s) x = absurd (false≢true (sym n ∙ ap is_read x))
+        ends N M f h (Err (Refused r c)) x = rw x (loops.refusal (v.loop N M f h) (rw x at (child N M f h).is))
+        ends N M f h (Err (Stopped r c)) x = rw x (loops.stop (v.loop N M f h) (rw x at (child N M f h).is))
 
     -- a part that was read, and what follows it
-    module _ {end : Spot} (x : a ≡ Read end) {p : Passed} (e : p ≡ pass_comma text (cursor_at end.at)) where
-      read : (N M : ℕ) → node_room ns₀ ≡ N → number_room ms₀ ≡ M → Met text N M (rows_in ns₁) (spans_in text ms₁) (g N M (used_by (rows_in ns) (spans_in text ms) q.nodes q.numbers)) (stream text (cursor_at q.at)) (Read end)
+    module _ {end : Spot} (x : a ≡ Ok end) {p : Passed} (e : p ≡ pass_comma text (cursor_at end.at)) where
+      read : (N M : ℕ) → node_room ns₀ ≡ N → number_room ms₀ ≡ M → Met text N M (rows_in ns₁) (spans_in text ms₁) (g N M (used_by (rows_in ns) (spans_in text ms) q.nodes q.numbers)) (stream text (cursor_at q.at)) (Ok end)
       read N M f h = rw x at (child N M f h)
 
       pub list_more : {here : Spot} → p.comma ≡ true → here ≡ spot p.next.at end.nodes end.numbers → length ns₁ ≡ length ns → length ms₁ ≡ length ms → ListInv text i g ns₀ ms₀ q₀ ns₁ ms₁ (parts + 1) here

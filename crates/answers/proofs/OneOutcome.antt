@@ -3,6 +3,7 @@
 use Prim.Native.Nat.{ℕ}
 use mathlib.Core.Path.{◌≡◌}
 use mathlib.Core.List.{List}
+use Rattle.std.specs.Prelude.{Ok}
 use Rattle.lists.specs.One.{One}
 use Rattle.lists.proofs.One.{one}
 use Rattle.tokenizer.specs.declared.Cursor.{Cursor}
@@ -10,9 +11,7 @@ use Rattle.tokenizer.specs.Tokens.{cursor_at, pass_comma}
 use Rattle.store.specs.Rows.{open_row}
 use Rattle.answers.specs.declared.State.{State}
 use Rattle.answers.specs.declared.Spot.{Spot}
-use Rattle.answers.specs.declared.Answer.{Answer}
-use Rattle.answers.specs.declared.Answer.TheVariants.{Read}
-use Rattle.answers.specs.Reading.{spot, state, state_of, ended_nodes, closed_at, closed_nodes, after_refusal, row_for}
+use Rattle.answers.specs.Reading.{Answer, spot, state, state_of, ended_nodes, closed_at, closed_nodes, after_refusal, row_for}
 
 pub moved_one : (at : ℕ) (s : Spot) → One (λ r. r ≡ spot at s.nodes s.numbers)
 moved_one at s = one
@@ -34,7 +33,7 @@ after_refusal_one text got = one
 
 -- those that are lent the node rows: the answer, and the slice that is left
 module _ (ns : List ℕ) (row parts : ℕ) where
-  pub ended_one : (end : Spot) → One (λ r. r ≡ Read end)
+  pub ended_one : (end : Spot) → One (λ (r : Answer). r ≡ Ok end)
   ended_one end = one
 
   pub ended_left_one : (end : Spot) → One (λ left. left ≡ ended_nodes ns row parts end)

@@ -3,6 +3,7 @@
 use mathlib.Core.Path.{◌≡◌, refl, sym, ap, ◌∙◌}
 use mathlib.Core.Bool.{Bool, true, false, false≢true, cond}
 use mathlib.Core.List.{List}
+use Rattle.std.specs.Prelude.{Ok, Err}
 use Prim.Native.Nat.{ℕ, ◌+◌, ◌≤◌, ◌<◌}
 use native.Mathlib.Omega.{arith}
 use lib.Dec.{eqb, ltb}
@@ -29,15 +30,26 @@ use Rattle.sorts.specs.Taken.{taken_at, refusal_by}
 use Rattle.sorts.proofs.Tokens.{Takes, takes, asks}
 use Rattle.answers.specs.declared.State.{State}
 use Rattle.answers.specs.declared.Spot.{Spot}
-use Rattle.answers.specs.declared.Answer.{Answer}
-use Rattle.answers.specs.declared.Answer.TheVariants.{Read, Refused, Stopped}
-use Rattle.answers.specs.Reading.{spot, is_read, ended_nodes, not_closed_at, closed_at, closed_nodes, after_refusal, row_for, used_by, got_of, end_of, Met}
+use Rattle.answers.specs.declared.Unread.{Unread}
+use Rattle.answers.specs.declared.Unread.TheVariants.{Refused, Stopped}
+use Rattle.answers.specs.Reading.{Answer, spot, is_read, ended_nodes, not_closed_at, closed_at, closed_nodes, after_refusal, row_for, used_by, got_of, end_of, Met}
 
--- in the arm of all answers that were not read the code knows that the answer is no `Read`
-pub not_read : (a : Answer) → ((s : Spot) → a ≡ Read s → ⊥) → is_read a ≡ false
-not_read (Read s) h = absurd (h s refl)
-not_read (Refused r c) h = refl
-not_read (Stopped r c) h = refl
+-- whether a part was read stays so where the closing token was looked for
+read_same : (text : List ℕ) (a : Answer) → is_read (after_refusal text a) ≡ is_read a
+unfolding after_refusal
+read_same text (Ok s) = refl
+read_same text (Err (Refused r c)) = either (eqb (taken_at text c).sort sort_close) (λ (b : Answer). is_read b ≡ false) _ _ (λ y. refl) (λ n. refl)
+read_same text (Err (Stopped r c)) = refl
+
+-- so behind the test of it: the part was read, or it was not
+module _ (text : List ℕ) where
+  pub part_read : {s : Spot} (a : Answer) → Ok s ≡ after_refusal text a → a ≡ Ok s
+  unfolding after_refusal
+  part_read (Ok q) x = sym x
+  part_read (Err e) x = absurd (false≢true (sym (read_same text (Err e)) ∙ sym (ap is_read x)))
+
+  pub part_lost : {e : Unread} (a : Answer) → Err e ≡ after_refusal text a → is_read a ≡ false
+  part_lost a x = sym (read_same text a) ∙ sym (ap is_read x)
 
 -- what closing a row puts is said here alone
 pub rows_ended : (ns : List ℕ) (i parts : ℕ) (e : Spot) → i < node_room ns → rows_in (ended_nodes ns i parts e) e.nodes ≡ close_in (rows_in ns e.nodes) i parts
@@ -45,7 +57,7 @@ rows_ended ns i parts e h = rows_closed ns i parts h e.nodes
 
 -- the closing token behind a body that was read
 module _ (text : List ℕ) (s : State) (ns : List ℕ) (row parts : ℕ) where
-  pub close_yes : {i : ℕ} {r : Answer} {ns' : List ℕ} → (taken_at text s.cursor).sort ≡ sort_close → i ≡ (taken_at text s.cursor).at → r ≡ Read (spot i s.nodes s.numbers) → ns' ≡ ended_nodes ns row parts (spot i s.nodes s.numbers) → (r ≡ closed_at text s) × (ns' ≡ closed_nodes text s ns row parts)
+  pub close_yes : {i : ℕ} {r : Answer} {ns' : List ℕ} → (taken_at text s.cursor).sort ≡ sort_close → i ≡ (taken_at text s.cursor).at → r ≡ Ok (spot i s.nodes s.numbers) → ns' ≡ ended_nodes ns row parts (spot i s.nodes s.numbers) → (r ≡ closed_at text s) × (ns' ≡ closed_nodes text s ns row parts)
   unfolding closed_at closed_nodes
   close_yes k e a b = let y = eq-eqb (taken_at text s.cursor).sort sort_close k in (a ∙ rw (e, y), b ∙ rw y)
 
@@ -55,11 +67,11 @@ module _ (text : List ℕ) (s : State) (ns : List ℕ) (row parts : ℕ) where
 
 -- and behind one that was refused
 module _ (text : List ℕ) (r : Refusal) (c : Cursor) where
-  pub lost_yes : (taken_at text c).sort ≡ sort_close → Refused r (cursor_at (taken_at text c).at) ≡ after_refusal text (Refused r c)
+  pub lost_yes : (taken_at text c).sort ≡ sort_close → Err (Refused r (cursor_at (taken_at text c).at)) ≡ after_refusal text (Err (Refused r c))
   unfolding after_refusal
   lost_yes k = rw (eq-eqb (taken_at text c).sort sort_close k)
 
-  pub lost_no : ((taken_at text c).sort ≡ sort_close → ⊥) → not_closed_at text (taken_at text c) ≡ after_refusal text (Refused r c)
+  pub lost_no : ((taken_at text c).sort ≡ sort_close → ⊥) → not_closed_at text (taken_at text c) ≡ after_refusal text (Err (Refused r c))
   unfolding after_refusal
   lost_no k = rw (ne_eqb (taken_at text c).sort sort_close k)
 
@@ -79,11 +91,11 @@ module _ (text : List ℕ) (s : State) (ns : List ℕ) (i parts : ℕ) where
 module _ (text : List ℕ) {N M : ℕ} (R : ℕ → List Row) (S : ℕ → List Span) where
   pub lost_met : (a : Answer) → is_read a ≡ false → Met text N M R S (closing (got_of R S a)) (stream text (end_of a)) (after_refusal text a)
   unfolding closing after_refusal
-  lost_met (Read s) n = absurd (false≢true (sym n))
-  lost_met (Stopped r c) n = record { is = run_ret _ _; within = tt }
-  lost_met (Refused r c) n = go (eqb (taken_at text c).sort sort_close) refl
+  lost_met (Ok s) n = absurd (false≢true (sym n))
+  lost_met (Err (Stopped r c)) n = record { is = run_ret _ _; within = tt }
+  lost_met (Err (Refused r c)) n = go (eqb (taken_at text c).sort sort_close) refl
     where
-      go : (b : Bool) → eqb (taken_at text c).sort sort_close ≡ b → Met text N M R S (closing (refused r)) (stream text c) (after_refusal text (Refused r c))
+      go : (b : Bool) → eqb (taken_at text c).sort sort_close ≡ b → Met text N M R S (closing (refused r)) (stream text c) (after_refusal text (Err (Refused r c)))
       go true y = rw y (record { is = close_asks text c (refused r) ∙ rw y; within = tt })
       go false y = rw y (record { is = close_asks text c (refused r) ∙ rw y; within = tt })
 
@@ -126,23 +138,23 @@ module _ (text : List ℕ) (c : Cursor) (p : Passed) (e : p ≡ pass_comma text 
 
 -- a row
 module _ (ns : List ℕ) (p : ℕ) (s : Spot) where
-  pub row_put : s.nodes < node_room ns → Read (spot s.at (s.nodes + 1) s.numbers) ≡ row_for ns p s
+  pub row_put : s.nodes < node_room ns → Ok (spot s.at (s.nodes + 1) s.numbers) ≡ row_for ns p s
   unfolding row_for
   row_put h = rw (lt-ltb s.nodes (node_room ns) h)
 
-  pub row_full : node_room ns ≤ s.nodes → Stopped (refusal no_node_row p) (cursor_at s.at) ≡ row_for ns p s
+  pub row_full : node_room ns ≤ s.nodes → Err (Stopped (refusal no_node_row p) (cursor_at s.at)) ≡ row_for ns p s
   unfolding row_for
   row_full h = rw (le-ltb s.nodes (node_room ns) h)
 
 module _ (ns : List ℕ) (p : ℕ) (s : Spot) {r : Answer} (e : r ≡ row_for ns p s) where
-  pub row_read : is_read r ≡ true → (s.nodes < node_room ns) × (r ≡ Read (spot s.at (s.nodes + 1) s.numbers))
+  pub row_read : is_read r ≡ true → (s.nodes < node_room ns) × (r ≡ Ok (spot s.at (s.nodes + 1) s.numbers))
   unfolding row_for
   row_read =
-      let Q : Answer → Type 0 = λ a. is_read a ≡ true → (s.nodes < node_room ns) × (a ≡ Read (spot s.at (s.nodes + 1) s.numbers)) in
+      let Q : Answer → Type 0 = λ a. is_read a ≡ true → (s.nodes < node_room ns) × (a ≡ Ok (spot s.at (s.nodes + 1) s.numbers)) in
       rw e (either (ltb s.nodes (node_room ns)) Q _ _ (λ y z. (ltb-true s.nodes (node_room ns) y, refl)) (λ n z. absurd (false≢true z)))
 
-  pub row_none : is_read r ≡ false → (node_room ns ≤ s.nodes) × (r ≡ Stopped (refusal no_node_row p) (cursor_at s.at))
+  pub row_none : is_read r ≡ false → (node_room ns ≤ s.nodes) × (r ≡ Err (Stopped (refusal no_node_row p) (cursor_at s.at)))
   unfolding row_for
   row_none =
-      let Q : Answer → Type 0 = λ a. is_read a ≡ false → (node_room ns ≤ s.nodes) × (a ≡ Stopped (refusal no_node_row p) (cursor_at s.at)) in
+      let Q : Answer → Type 0 = λ a. is_read a ≡ false → (node_room ns ≤ s.nodes) × (a ≡ Err (Stopped (refusal no_node_row p) (cursor_at s.at))) in
       rw e (either (ltb s.nodes (node_room ns)) Q _ _ (λ y z. absurd (false≢true (sym z))) (λ n z. (ltb-false s.nodes (node_room ns) n, refl)))

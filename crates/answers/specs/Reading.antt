@@ -1,6 +1,6 @@
 -- What the code's answers mean, and what a call of each part of the reader comes to.
 -- A contract over both slices is a record over all values; the rooms stand inside with equations.
-use Rattle.std.specs.Prelude.{◌≡◌, Bool, true, false, cond, List, ℕ, ◌+◌, ◌≤◌, ◌<◌, ◌^◌, eqb, ltb, length}
+use Rattle.std.specs.Prelude.{◌≡◌, Bool, true, false, cond, Result, Ok, Err, List, ℕ, ◌+◌, ◌≤◌, ◌<◌, ◌^◌, eqb, ltb, length}
 use Rattle.refusals.specs.Refusals.{no_node_row, not_closed}
 use Rattle.tokenizer.specs.declared.Cursor.{Cursor}
 use Rattle.tokenizer.specs.Tokens.{cursor_at}
@@ -15,8 +15,8 @@ use Rattle.sorts.specs.declared.Taken.{Taken}
 use Rattle.sorts.specs.Taken.{taken_at, refusal_by}
 use Rattle.answers.specs.declared.State.{State}
 use Rattle.answers.specs.declared.Spot.{Spot}
-use Rattle.answers.specs.declared.Answer.{Answer}
-use Rattle.answers.specs.declared.Answer.TheVariants.{Read, Refused, Stopped}
+use Rattle.answers.specs.declared.Unread.{Unread}
+use Rattle.answers.specs.declared.Unread.TheVariants.{Refused, Stopped}
 
 abbrev pub spot : ℕ → ℕ → ℕ → Spot
 spot i n m = record { at = i; nodes = n; numbers = m }
@@ -28,10 +28,13 @@ state c n m = record { cursor = c; nodes = n; numbers = m }
 abbrev pub state_of : Spot → State
 state_of s = state (cursor_at s.at) s.nodes s.numbers
 
+-- what reading a part came to
+abbrev pub Answer : Type 0
+Answer = Result Spot Unread
+
 abbrev pub is_read : Answer → Bool
-is_read (Read s) = true
-is_read (Refused r c) = false
-is_read (Stopped r c) = false
+is_read (Ok s) = true
+is_read (Err e) = false
 
 -- the node in row i has ended at e, with so many parts: its row is closed
 abbrev pub ended_nodes : List ℕ → ℕ → ℕ → Spot → List ℕ
@@ -39,13 +42,13 @@ ended_nodes ns i parts e = close_row ns i parts
 
 -- what is answered where the closing token was looked for: t was taken
 abbrev pub not_closed_at : List ℕ → Taken → Answer
-not_closed_at text t = Refused (refusal_by text not_closed t) (cursor_at t.at)
+not_closed_at text t = Err (Refused (refusal_by text not_closed t) (cursor_at t.at))
 
 -- behind a body that was read: `)` ends the node, any other token is refused
 unfoldable pub closed_at : List ℕ → State → Answer
 closed_at text s =
     let t = taken_at text s.cursor in
-    cond (eqb t.sort sort_close) (Read (spot t.at s.nodes s.numbers)) (not_closed_at text t)
+    cond (eqb t.sort sort_close) (Ok (spot t.at s.nodes s.numbers)) (not_closed_at text t)
 
 -- and its row has its parts only then
 unfoldable pub closed_nodes : List ℕ → State → List ℕ → ℕ → ℕ → List ℕ
@@ -55,15 +58,15 @@ closed_nodes text s ns i parts =
 
 -- behind a body that was refused the closing token is taken too; behind one that was stopped nothing is
 unfoldable pub after_refusal : List ℕ → Answer → Answer
-after_refusal text (Read s) = Read s
-after_refusal text (Refused r c) =
+after_refusal text (Ok s) = Ok s
+after_refusal text (Err (Refused r c)) =
     let t = taken_at text c in
-    cond (eqb t.sort sort_close) (Refused r (cursor_at t.at)) (not_closed_at text t)
-after_refusal text (Stopped r c) = Stopped r c
+    cond (eqb t.sort sort_close) (Err (Refused r (cursor_at t.at))) (not_closed_at text t)
+after_refusal text (Err (Stopped r c)) = Err (Stopped r c)
 
 -- one node row more, or the refusal for want of one
 unfoldable pub row_for : List ℕ → ℕ → Spot → Answer
-row_for ns p s = cond (ltb s.nodes (node_room ns)) (Read (spot s.at (s.nodes + 1) s.numbers)) (Stopped (refusal no_node_row p) (cursor_at s.at))
+row_for ns p s = cond (ltb s.nodes (node_room ns)) (Ok (spot s.at (s.nodes + 1) s.numbers)) (Err (Stopped (refusal no_node_row p) (cursor_at s.at)))
 
 -- what is used of the slices, where R and S say what they hold in so many rows
 abbrev pub used_by : (ℕ → List Row) → (ℕ → List Span) → ℕ → ℕ → Out
@@ -71,20 +74,20 @@ used_by R S n m = out (R n) (S m)
 
 -- what an answer means, and the cursor behind it
 abbrev pub got_of : (ℕ → List Row) → (ℕ → List Span) → Answer → Got
-got_of R S (Read s) = ok (used_by R S s.nodes s.numbers)
-got_of R S (Refused r c) = refused r
-got_of R S (Stopped r c) = halt r
+got_of R S (Ok s) = ok (used_by R S s.nodes s.numbers)
+got_of R S (Err (Refused r c)) = refused r
+got_of R S (Err (Stopped r c)) = halt r
 
 abbrev pub end_of : Answer → Cursor
-end_of (Read s) = cursor_at s.at
-end_of (Refused r c) = c
-end_of (Stopped r c) = c
+end_of (Ok s) = cursor_at s.at
+end_of (Err (Refused r c)) = c
+end_of (Err (Stopped r c)) = c
 
 -- the rows that were read are within a room for N node rows and M number rows
 abbrev pub Within : ℕ → ℕ → Answer → Type 0
-Within N M (Read s) = (s.nodes ≤ N) × (s.numbers ≤ M)
-Within N M (Refused r c) = Unit {0}
-Within N M (Stopped r c) = Unit {0}
+Within N M (Ok s) = (s.nodes ≤ N) × (s.numbers ≤ M)
+Within N M (Err (Refused r c)) = Unit {0}
+Within N M (Err (Stopped r c)) = Unit {0}
 
 -- the reader p, fed with s, comes to r
 pub record Met (text : List ℕ) (N M : ℕ) (R : ℕ → List Row) (S : ℕ → List Span) (p : P Got) (s : Str) (r : Answer) : Type 0 where

@@ -4,7 +4,6 @@
 ghost use Rattle.std.specs.Prelude.{◌≡◌};
 ghost use Rattle.tokenizer.specs.Tokens.{cursor_at, pass_comma};
 ghost use Rattle.store.specs.Rows.{open_row};
-ghost use Rattle.answers.specs.declared.Answer.TheVariants.{Read};
 ghost use Rattle.answers.specs.Reading.{spot, state, state_of, ended_nodes, not_closed_at, closed_at, closed_nodes, after_refusal, row_for};
 
 use refusals::{NO_NODE_ROW, NOT_CLOSED};
@@ -28,11 +27,10 @@ pub struct Spot {
     pub numbers: usize,
 }
 
-// What reading a part came to. Behind what was read nothing is held; after `Refused` the closing token is still taken, from
-// the cursor; `Stopped` ends the reading at once.
+// Why a part was not read: after `Refused` the closing token is still taken, from the cursor; `Stopped` ends the reading at
+// once. Behind a part that was read nothing is held: it ended at a spot.
 #[derive(Clone, Copy)]
-pub enum Answer {
-    Read(Spot),
+pub enum Unread {
     Refused(Refusal, Cursor),
     Stopped(Refusal, Cursor),
 }
@@ -91,25 +89,31 @@ pub fn after_part(text: &[u8], end: Spot) -> Passed
 }
 
 // A node that was read up to `end`: its row is closed.
-pub fn ended(nodes: &mut [u32], row: usize, parts: u32, end: Spot) -> Answer
-    ensures { (result ≡ Read end) × (nodes.new ≡ ended_nodes nodes.old row parts end) }
+pub fn ended(nodes: &mut [u32], row: usize, parts: u32, end: Spot) -> Result<Spot, Unread>
+    ensures { (result ≡ Ok end) × (nodes.new ≡ ended_nodes nodes.old row parts end) }
 {
     store::close_row(nodes, row, parts);
-    Answer::Read(end)
+    Ok(end)
 }
 
 // What was taken in the closing token's place, and is not it.
-fn not_closed(text: &[u8], token: Taken) -> Answer
+fn not_closed(text: &[u8], token: Taken) -> Result<Spot, Unread>
     ensures { result ≡ not_closed_at text.now token }
 {
-    Answer::Refused(
+    Err(Unread::Refused(
         sorts::refusal_at(text, NOT_CLOSED, token.sort, token.place),
         Cursor::new(token.at),
-    )
+    ))
 }
 
 // The closing token behind a body that was read, and the end of its node.
-pub fn closing(text: &[u8], nodes: &mut [u32], row: usize, parts: u32, s: State) -> Answer
+pub fn closing(
+    text: &[u8],
+    nodes: &mut [u32],
+    row: usize,
+    parts: u32,
+    s: State,
+) -> Result<Spot, Unread>
     ensures { (result ≡ closed_at text.now s) × (nodes.new ≡ closed_nodes text.now s nodes.old row parts) }
 {
     let cursor = s.cursor;
@@ -138,42 +142,48 @@ pub fn closing(text: &[u8], nodes: &mut [u32], row: usize, parts: u32, s: State)
 }
 
 // The closing token behind a body that was not read: it is taken also where the body was refused.
-pub fn after_refusal(text: &[u8], got: Answer) -> Answer
+pub fn after_refusal(text: &[u8], got: Result<Spot, Unread>) -> Result<Spot, Unread>
     ensures { result ≡ after_refusal text.now got }
 {
     match got {
-        Answer::Read(_) => got,
-        Answer::Refused(r, cursor) => {
+        Ok(_) => got,
+        Err(Unread::Refused(r, cursor)) => {
             let token = sorts::take(text, cursor);
             if token.sort == CLOSE {
-                Answer::Refused(r, Cursor::new(token.at))
+                Err(Unread::Refused(r, Cursor::new(token.at)))
             } else {
                 not_closed(text, token)
             }
         }
-        Answer::Stopped(_, _) => got,
+        Err(Unread::Stopped(_, _)) => got,
     }
 }
 
 // A node for what stands at `place`: its row is opened and used, or there is none.
-pub fn open_node(nodes: &mut [u32], kind: u32, dimension: u32, place: usize, s: Spot) -> Answer
+pub fn open_node(
+    nodes: &mut [u32],
+    kind: u32,
+    dimension: u32,
+    place: usize,
+    s: Spot,
+) -> Result<Spot, Unread>
     ensures { (result ≡ row_for nodes.old place s) × (nodes.new ≡ open_row nodes.old s.nodes kind dimension) }
 {
     let row = s.nodes;
     let room = store::node_room(nodes);
     store::open_row(nodes, row, kind, dimension);
     if row < room {
-        return Answer::Read(Spot {
+        return Ok(Spot {
             at: s.at,
             nodes: row + 1,
             numbers: s.numbers,
         });
     }
-    Answer::Stopped(
+    Err(Unread::Stopped(
         Refusal {
             number: NO_NODE_ROW,
             place,
         },
         Cursor::new(s.at),
-    )
+    ))
 }

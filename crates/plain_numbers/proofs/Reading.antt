@@ -3,6 +3,7 @@
 use mathlib.Core.Path.{◌≡◌, refl, sym, ap, ◌∙◌}
 use mathlib.Core.Bool.{Bool, true, false, ◌&&◌}
 use mathlib.Core.List.{List}
+use Rattle.std.specs.Prelude.{Option, Some, None}
 use Prim.Native.Nat.{ℕ, ◌+◌, ◌-◌, ◌≤◌, ◌<◌}
 use native.Mathlib.Omega.{arith}
 use lib.Dec.{ltb}
@@ -12,7 +13,7 @@ use Rattle.lists.proofs.Cases.{either, and_both}
 use Rattle.scan.specs.Bytes.{is_blank, is_stop, is_digit, is_sign, is_plus, is_point, is_numberlike, minus}
 use Rattle.scan.specs.Runs.{first_not, after_one_at}
 use Rattle.scan.proofs.Bytes.{digit_low}
-use Rattle.scan.proofs.Runs.{stop, not_past, one_on, one_off, scan_on, one_not_before}
+use Rattle.scan.proofs.Runs.{stop, not_before, not_past, one_on, one_off, scan_on, one_not_before, one_not_past}
 use Rattle.number.specs.declared.Lexeme.{Lexeme}
 use Rattle.number.specs.Lexeme.{is_lexeme, is_decimal, up_to_stop, from_here}
 use Rattle.number.proofs.Text.{exponent_stop, decimal_is, lexeme_decimal}
@@ -20,7 +21,7 @@ use Rattle.token.specs.declared.Found.{Found}
 use Rattle.token.specs.declared.Token.TheVariants.{Number}
 use Rattle.token.specs.Tokens.{read, after_blank, number_at, token_at, read_at}
 use Rattle.token.proofs.Tokens.{number_is, other_is}
-use Rattle.plain_numbers.specs.Plain.{is_minus, fraction_end, decimal_end, plain, plain_at, PlainNumber}
+use Rattle.plain_numbers.specs.Plain.{is_minus, fraction_end, decimal_end, plain, plain_to, plain_at, PlainNumber}
 use Rattle.plain_numbers.specs.declared.Plain.{Plain}
 
 -- from the minus on no byte is a blank
@@ -75,7 +76,7 @@ module _ (text : List ℕ) (i first whole point end : ℕ) (w : whole ≡ first_
           let d : is_digit (get_or text i 0) ≡ true = rw (← k) first_digit in
           reads_number (omega (arith, first_in, k)) (k ∙ one_off is_sign text i (digit_sign (get_or text i 0) d)) (omega (arith, digit_low (get_or text i 0) d)) (rw d)
 
--- where r lies behind i: the first digit, the end of the digits from there, what follows a point, and its digits' end
+-- the first digit, the end of the digits from there, what follows a point, and its digits' end
 record Digits (text : List ℕ) (i r : ℕ) : Type 0 where
   first : ℕ
   signed : first ≡ after_one_at is_minus text i
@@ -93,68 +94,75 @@ module _ (text : List ℕ) where
       (λ n. sym (scan_on is_digit is_digit (λ b t. t) text first) ∙ ap (first_not is_digit text) (one_off is_point text whole n))
 
   module _ (i : ℕ) where
-    decimal_digits : i < decimal_end text i → Digits text i (decimal_end text i)
+    decimal_digits : (end : ℕ) → Some end ≡ decimal_end text i → Digits text i end
     unfolding decimal_end
-    decimal_digits =
+    decimal_digits end =
         let first = after_one_at is_minus text i in
-        either (ltb first (first_not is_digit text first)) (λ r. i < r → Digits text i r) _ _
-        (λ y h. record { first = first; signed = refl; some = ltb-true first (first_not is_digit text first) y; whole = fraction_is first })
-        (λ n h. absurd (omega arith))
+        let Q : Option ℕ → Type 0 = λ r. Some end ≡ r → Digits text i end in
+        either (ltb first (first_not is_digit text first)) Q _ _
+        (λ y e. let k : end ≡ fraction_end text (first_not is_digit text first) = cc in record { first = first; signed = refl; some = ltb-true first (first_not is_digit text first) y; whole = k ∙ fraction_is first })
+        (λ n e. cc)
 
-    no_number : PlainNumber text i (plain i i)
-    no_number = record { on = omega arith; inside = λ h. absurd (omega arith); number = λ h. absurd (omega arith) }
+    ends_behind : (end : ℕ) → Digits text i end → i < end
+    ends_behind end d =
+        let whole = first_not is_digit text d.first in
+        let past = not_past is_digit text d.first in
+        let point = after_one_at is_point text whole in
+        omega (arith, d.signed, one_not_before is_minus text i refl, d.some, d.whole, one_not_before is_point text whole refl, not_before is_digit text point (one_not_past is_point text whole refl past))
 
     a_number : (end : ℕ) → Digits text i end → end < length text → is_stop (get_or text end 0) ≡ true → PlainNumber text i (plain end (after_blank text end))
     a_number end d g s = record {
+      behind = ends_behind end d;
       on = one_not_before is_blank text end refl;
-      inside = λ h. g;
-      number = λ h.
+      inside = g;
+      number =
           reads_plain text i d.first (first_not is_digit text d.first) (after_one_at is_point text (first_not is_digit text d.first)) end refl d.some refl d.whole g s d.signed;
     }
 
     -- what is found is the token that stands there
-    pub plain_number : PlainNumber text i (plain_at text i)
+    stops_there : (r : Plain) (end : ℕ) → Digits text i end → Some r ≡ plain_to text (Some end) → PlainNumber text i r
+    stops_there r end d =
+        let Q : Option Plain → Type 0 = λ t. Some r ≡ t → PlainNumber text i r in
+        either (ltb end (length text) && is_stop (get_or text end 0)) Q _ _
+        (λ y e.
+        let inner = and_both (ltb end (length text)) (is_stop (get_or text end 0)) y in
+        let k : r ≡ plain end (after_blank text end) = cc in
+        rw k (a_number end d (ltb-true end (length text) inner.0) inner.1))
+        (λ n e. cc)
+
+    by_end : (r : Plain) (t : Option ℕ) → t ≡ decimal_end text i → Some r ≡ plain_to text t → PlainNumber text i r
+    by_end r (Some end) x e = stops_there r end (decimal_digits end x) e
+    by_end r None x e = cc
+
+    pub plain_number : {r : Plain} → Some r ≡ plain_at text i → PlainNumber text i r
     unfolding plain_at
-    plain_number =
-        let end = decimal_end text i in
-        let inside = ltb end (length text) && is_stop (get_or text end 0) in
-        either (ltb i end && inside) (PlainNumber text i) _ _
-        (λ y.
-        let outer = and_both (ltb i end) inside y in
-        let inner = and_both (ltb end (length text)) (is_stop (get_or text end 0)) outer.1 in
-        a_number end (decimal_digits (ltb-true i end outer.0)) (ltb-true end (length text) inner.0) inner.1)
-        (λ n. no_number)
+    plain_number {r} e = by_end r (decimal_end text i) refl e
 
     -- the code's ways to the digits' end
     module _ (first whole : ℕ) (s : first ≡ after_one_at is_minus text i) (w : whole ≡ first_not is_digit text first) where
-      pub no_digits : whole ≤ first → i ≡ decimal_end text i
+      pub no_digits : whole ≤ first → None ≡ decimal_end text i
       unfolding decimal_end
       no_digits h = rw (← s, ← w, le-ltb first whole h)
 
-      pub some_digits : {r : ℕ} → first < whole → r ≡ fraction_end text whole → r ≡ decimal_end text i
+      pub some_digits : {r : ℕ} → first < whole → r ≡ fraction_end text whole → Some r ≡ decimal_end text i
       unfolding decimal_end
-      some_digits h e = rw (← s, ← w, lt-ltb first whole h) e
+      some_digits h e = rw (← s, ← w, lt-ltb first whole h, e)
 
     -- and to the number
-    module _ (end : ℕ) (e : end ≡ decimal_end text i) where
-      pub none_there : end ≤ i → plain i i ≡ plain_at text i
+    pub none_there : None ≡ decimal_end text i → None ≡ plain_at text i
+    unfolding plain_at
+    none_there e = rw (← e)
+
+    module _ (end : ℕ) (e : Some end ≡ decimal_end text i) where
+      pub none_behind : length text ≤ end → None ≡ plain_at text i
       unfolding plain_at
-      none_there h = rw (← e, le-ltb i end h)
+      none_behind g = rw (← e, le-ltb end (length text) g)
 
-      module _ (h : i < end) where
-        pub none_behind : length text ≤ end → plain i i ≡ plain_at text i
+      module _ (g : end < length text) where
+        pub none_stops : is_stop (get_or text end 0) ≡ false → None ≡ plain_at text i
         unfolding plain_at
-        none_behind g = rw (← e, lt-ltb i end h, le-ltb end (length text) g)
+        none_stops n = rw (← e, lt-ltb end (length text) g, n)
 
-        module _ (g : end < length text) where
-          pub none_stops : is_stop (get_or text end 0) ≡ false → plain i i ≡ plain_at text i
-          unfolding plain_at
-          none_stops n = rw (← e, lt-ltb i end h, lt-ltb end (length text) g, n)
-
-          pub one_stops : {next : ℕ} → is_stop (get_or text end 0) ≡ true → next ≡ after_blank text end → plain end next ≡ plain_at text i
-          unfolding plain_at
-          one_stops y a = rw (← e, lt-ltb i end h, lt-ltb end (length text) g, y, a)
-
--- the same of what is equal to it
-pub plain_met : {text : List ℕ} {i : ℕ} {r : Plain} → r ≡ plain_at text i → PlainNumber text i r
-plain_met {text} {i} e = rw e (plain_number text i)
+        pub one_stops : {next : ℕ} → is_stop (get_or text end 0) ≡ true → next ≡ after_blank text end → Some (plain end next) ≡ plain_at text i
+        unfolding plain_at
+        one_stops y a = rw (← e, lt-ltb end (length text) g, y, a)

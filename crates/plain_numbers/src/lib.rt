@@ -8,7 +8,7 @@ ghost use Rattle.plain_numbers.specs.Plain.{is_minus, fraction_end, decimal_end,
 
 use scan::{after_blank, after_one, digits_end, is_stop};
 
-// Where a plain number ends, and the place to read on from: both are where it was looked for if there is none.
+// Where a plain number ends, and the place to read on from.
 #[derive(Clone, Copy)]
 pub struct Plain {
     pub end: usize,
@@ -36,44 +36,40 @@ fn fraction_end(text: &[u8], at: usize) -> usize
     }
 }
 
-// Where the digits that stand at `at` end, with a minus in front and a point among them; or `at`. A plus is no part of
-// them: it is dropped, and the text of such a number starts behind it.
-fn decimal_end(text: &[u8], at: usize) -> usize
+// Where the digits that stand at `at` end, with a minus in front and a point among them; none where no digit stands there.
+// A plus is no part of them: it is dropped, and the text of such a number starts behind it.
+fn decimal_end(text: &[u8], at: usize) -> Option<usize>
     ensures { result ≡ decimal_end text.now at }
 {
     let first = after_minus(text, at);
     let whole = digits_end(text, first);
     if whole <= first {
-        return at;
+        return None;
     }
-    fraction_end(text, whole)
+    Some(fraction_end(text, whole))
 }
 
-// The plain number at `at`.
-pub fn plain_number(text: &[u8], at: usize) -> Plain
+// The plain number at `at`, if one stands there.
+pub fn plain_number(text: &[u8], at: usize) -> Option<Plain>
     ensures { result ≡ plain_at text.now at }
 {
-    let none = Plain { end: at, next: at };
-    let end = decimal_end(text, at);
-    if end <= at {
-        return none;
-    }
+    let end = decimal_end(text, at)?;
     if text.len() <= end {
-        return none;
+        return None;
     }
     let b = text[end];
     // Most numbers have a space or a comma behind them.
     if b == b' ' {
-        return Plain { end, next: end + 1 };
+        return Some(Plain { end, next: end + 1 });
     }
     if b == b',' {
-        return Plain { end, next: end };
+        return Some(Plain { end, next: end });
     }
     if is_stop(b) {
-        return Plain {
+        return Some(Plain {
             end,
             next: after_blank(text, end),
-        };
+        });
     }
-    none
+    None
 }

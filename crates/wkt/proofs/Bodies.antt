@@ -2,6 +2,7 @@
 -- Assumes nothing.
 use mathlib.Core.Path.{◌≡◌, refl, sym, ◌∙◌}
 use mathlib.Core.Bool.{Bool, true, false, false≢true, ◌&&◌}
+use Rattle.std.specs.Prelude.{Ok, Err}
 use mathlib.Core.List.{List}
 use Prim.Native.Nat.{ℕ, zero, suc, ◌+◌, ◌-◌, ◌≤◌, ◌<◌}
 use native.Mathlib.Omega.{arith}
@@ -35,20 +36,19 @@ use Rattle.headings.specs.Heads.{MetHead}
 use Rattle.headings.proofs.Runs.{met_head}
 use Rattle.answers.specs.declared.State.{State}
 use Rattle.answers.specs.declared.Spot.{Spot}
-use Rattle.answers.specs.declared.Answer.{Answer}
-use Rattle.answers.specs.declared.Answer.TheVariants.{Read, Refused, Stopped}
-use Rattle.answers.specs.Reading.{spot, state, state_of, is_read, ended_nodes, closed_at, closed_nodes, after_refusal, row_for, used_by, got_of, Met, Part, Reads, Fits, list_of, closed_of}
+use Rattle.answers.specs.declared.Unread.TheVariants.{Refused, Stopped}
+use Rattle.answers.specs.Reading.{Answer, spot, state, state_of, is_read, ended_nodes, closed_at, closed_nodes, after_refusal, row_for, used_by, got_of, Met, Part, Reads, Fits, list_of, closed_of}
 use Rattle.answers.proofs.Parts.{rows_ended, closed_met, lost_met, row_read, row_none}
 use Rattle.wkt.specs.Coords.{Ready, FitsNumbers, MetCoord, FitsHeld, ReadsHeld}
 use Rattle.wkt.specs.Parts as parts
-use Rattle.wkt.specs.Parts.{coord_of, point_body_of, point_in_of, bare_point_of, line_in_of, polygon_in_of, with_body, simple_kind, body_of, simple_of, collection_of, root_of}
+use Rattle.wkt.specs.Parts.{coord_of, point_body_of, point_in_of, bare_point_of, with_body, unnamed_of, simple_kind, body_of, simple_of, collection_of, root_of}
 
 -- what was not read is handed on
 and_lost : (R : ℕ → List Row) (S : ℕ → List Span) (a : Answer) (f : Out → P Got) → is_read a ≡ false → and_then (got_of R S a) f ≡ ret (got_of R S a)
 unfolding and_then
-and_lost R S (Read s) f n = absurd (false≢true (sym n))
-and_lost R S (Refused r c) f n = refl
-and_lost R S (Stopped r c) f n = refl
+and_lost R S (Ok s) f n = absurd (false≢true (sym n))
+and_lost R S (Err (Refused r c)) f n = refl
+and_lost R S (Err (Stopped r c)) f n = refl
 
 -- one coordinate
 pub own : {text ns ms : List ℕ} {s : Spot} → Fits text ns ms s → FitsNumbers text ms s
@@ -60,7 +60,7 @@ module _ {text ns ms ms₁ : List ℕ} {d : ℕ} {s : Spot} {a : Answer} (f : Fi
 
   -- the body of a point, and the closing token
   module _ (i : ℕ) where
-    pub point_read : {end : Spot} {q : State} {r : Answer} {ns' : List ℕ} → i < s.nodes → a ≡ Read end → q ≡ state_of end → r ≡ closed_at text q → ns' ≡ closed_nodes text q ns i 1 → Reads text (closed_of (point_body_of d i)) s ns ms r ns' ms₁
+    pub point_read : {end : Spot} {q : State} {r : Answer} {ns' : List ℕ} → i < s.nodes → a ≡ Ok end → q ≡ state_of end → r ≡ closed_at text q → ns' ≡ closed_nodes text q ns i 1 → Reads text (closed_of (point_body_of d i)) s ns ms r ns' ms₁
     unfolding point_body and_then
     point_read {end} l x j u k = record {
       met = λ N M g h.
@@ -95,27 +95,27 @@ module _ {text : List ℕ} (ns : List ℕ) {ns' : List ℕ} (k d p : ℕ) (s : S
 
 -- a row that was used, and one that was not
 module _ (ns : List ℕ) (p : ℕ) (s : Spot) {b : Answer} (e : b ≡ row_for ns p s) where
-  one_row : {here : Spot} → b ≡ Read here → (s.nodes < node_room ns) × (here ≡ spot s.at (s.nodes + 1) s.numbers)
+  one_row : {here : Spot} → b ≡ Ok here → (s.nodes < node_room ns) × (here ≡ spot s.at (s.nodes + 1) s.numbers)
   one_row {here} x =
       let z = row_read ns p s e (rw x) in
-      let y : Read here ≡ Read (spot s.at (s.nodes + 1) s.numbers) = sym x ∙ z.1 in
+      let y : ◌≡◌ {A = Answer} (Ok here) (Ok (spot s.at (s.nodes + 1) s.numbers)) = sym x ∙ z.1 in
       (z.0, cc)
 
-  no_row : {r : Refusal} {c : Cursor} → b ≡ Stopped r c → (node_room ns ≤ s.nodes) × (r ≡ refusal no_node_row p)
+  no_row : {r : Refusal} {c : Cursor} → b ≡ Err (Stopped r c) → (node_room ns ≤ s.nodes) × (r ≡ refusal no_node_row p)
   no_row {r} {c} x =
       let z = row_none ns p s e (rw x) in
-      let y : Stopped r c ≡ Stopped (refusal no_node_row p) (cursor_at s.at) = sym x ∙ z.1 in
+      let y : ◌≡◌ {A = Answer} (Err (Stopped r c)) (Err (Stopped (refusal no_node_row p) (cursor_at s.at))) = sym x ∙ z.1 in
       (z.0, cc)
 
-  pub never_refused : {r : Refusal} {c : Cursor} → b ≡ Refused r c → ⊥
+  pub never_refused : {r : Refusal} {c : Cursor} → b ≡ Err (Refused r c) → ⊥
   never_refused {r} {c} x =
-      let y : Refused r c ≡ Stopped (refusal no_node_row p) (cursor_at s.at) = sym x ∙ (row_none ns p s e (rw x)).1 in
+      let y : ◌≡◌ {A = Answer} (Err (Refused r c)) (Err (Stopped (refusal no_node_row p) (cursor_at s.at))) = sym x ∙ (row_none ns p s e (rw x)).1 in
       let z : ◌≡◌ {A = ℕ} 0 1 = cc in
       omega arith
 
 -- a row that a body follows
 module _ {text ns ms : List ℕ} (p : ℕ) {s : Spot} {b : Answer} (e : b ≡ row_for ns p s) where
-  module _ {here : Spot} (x : b ≡ Read here) where
+  module _ {here : Spot} (x : b ≡ Ok here) where
     pub body_fits : {ns₀ : List ℕ} → length ns₀ ≡ length ns → Fits text ns ms s → (s.nodes < here.nodes) × Fits text ns₀ ms here
     body_fits l f =
         let z = one_row ns p s e x in
@@ -142,23 +142,15 @@ module _ {text ns ms : List ℕ} (p : ℕ) {s : Spot} {b : Answer} (e : b ≡ ro
         rw z.1 (record { is = rw (rows_length, le-ltb s.nodes N (omega (arith, g, h))) (run_ret _ _); within = tt });
   }
 
--- each kind's own
+-- a point's own
 module _ {text ns ms : List ℕ} (d : ℕ) {s : Spot} {r : Answer} {ns' ms' : List ℕ} where
   pub as_point_in : (p : ℕ) → Reads text (with_body kind_point d (point_body_of d) p) s ns ms r ns' ms' → Reads text (point_in_of d p) s ns ms r ns' ms'
   unfolding point_in
   as_point_in p m = record { met = λ N M g u. m.met N M g u }
 
-  pub as_line_in : (p : ℕ) → Reads text (with_body kind_line_string d (λ i. list_of i (coord_of d)) p) s ns ms r ns' ms' → Reads text (line_in_of d p) s ns ms r ns' ms'
-  unfolding line_in line_body
-  as_line_in p m = record { met = λ N M g u. m.met N M g u }
-
-  pub as_polygon_in : (p : ℕ) → Reads text (with_body kind_polygon d (λ i. list_of i (parts.line_of d)) p) s ns ms r ns' ms' → Reads text (polygon_in_of d p) s ns ms r ns' ms'
-  unfolding polygon_in lines_body
-  as_polygon_in p m = record { met = λ N M g u. m.met N M g u }
-
 -- a bare point: its row is for the spot q of the state s, where its first token is held
 module _ (text ns ms : List ℕ) (p : ℕ) (s : State) (q : Spot) (j : q ≡ spot s.cursor.at s.nodes s.numbers) {b : Answer} (e : b ≡ row_for ns p q) where
-  pub bare_full : (d : ℕ) {r : Refusal} {c : Cursor} {ns₀ : List ℕ} → b ≡ Stopped r c → ReadsHeld text (bare_point_of d p) s ns ms (Stopped r s.cursor) ns₀ ms
+  pub bare_full : (d : ℕ) {r : Refusal} {c : Cursor} {ns₀ : List ℕ} → b ≡ Err (Stopped r c) → ReadsHeld text (bare_point_of d p) s ns ms (Err (Stopped r s.cursor)) ns₀ ms
   unfolding bare_point and_then
   bare_full d x = record {
     met = λ N M g u.
@@ -167,7 +159,7 @@ module _ (text ns ms : List ℕ) (p : ℕ) (s : State) (q : Spot) (j : q ≡ spo
         rw z.1 (record { is = rw (rows_length, le-ltb s.nodes N (omega (arith, g, h))) (run_ret _ _); within = tt });
   }
 
-  module _ {here : Spot} (x : b ≡ Read here) {t : State} (i : t ≡ state s.cursor here.nodes here.numbers) where
+  module _ {here : Spot} (x : b ≡ Ok here) {t : State} (i : t ≡ state s.cursor here.nodes here.numbers) where
     a_row : (s.nodes < node_room ns) × (t ≡ state s.cursor (s.nodes + 1) s.numbers)
     a_row =
         let z = one_row ns p q e x in
@@ -180,7 +172,7 @@ module _ (text ns ms : List ℕ) (p : ℕ) (s : State) (q : Spot) (j : q ≡ spo
       coord_met : (N M : ℕ) → node_room ns ≡ N → number_room ms ≡ M → Met text N M (rows_in (open_row ns s.nodes kind_point d)) (spans_in text ms₁) (spec.coord M d (used_by (rows_in (open_row ns s.nodes kind_point d)) (spans_in text ms) (s.nodes + 1) s.numbers)) (stream text s.cursor) a
       coord_met N M g u = (rw a_row.1 at m).met N M (rows_in (open_row ns s.nodes kind_point d)) u (omega (arith, g, a_row.0))
 
-      pub bare_read : {end : Spot} {r : Answer} {ns' : List ℕ} → a ≡ Read end → r ≡ Read end → ns' ≡ ended_nodes ns₀ s.nodes 1 end → ReadsHeld text (bare_point_of d p) s ns ms r ns' ms₁
+      pub bare_read : {end : Spot} {r : Answer} {ns' : List ℕ} → a ≡ Ok end → r ≡ Ok end → ns' ≡ ended_nodes ns₀ s.nodes 1 end → ReadsHeld text (bare_point_of d p) s ns ms r ns' ms₁
       unfolding bare_point point_body and_then
       bare_read {end} {ns' = ns'} y v l = record {
         met = λ N M g u.
@@ -249,7 +241,7 @@ module _ {text ns ms : List ℕ} {p : P spec.Head} (f : ℕ → ℕ → Out → 
         record { is = run_step _ _ _ (met_head (rw x at m)) ∙ rw (y N M (used_by (rows_in ns) (spans_in text ms) s.nodes s.numbers)) w.is; within = w.within };
   }
 
-  head_wrong : {r : Refusal} {c : Cursor} → ((N M : ℕ) (o : Out) → f N M o (wrong r) ≡ ret (refused r)) → h ≡ Wrong r c → Reads text (λ N M o. bind p (f N M o)) s ns ms (Refused r c) ns ms
+  head_wrong : {r : Refusal} {c : Cursor} → ((N M : ℕ) (o : Out) → f N M o (wrong r) ≡ ret (refused r)) → h ≡ Wrong r c → Reads text (λ N M o. bind p (f N M o)) s ns ms (Err (Refused r c)) ns ms
   head_wrong y x = record {
     met = λ N M g u. record { is = run_step _ _ _ (met_head (rw x at m)) ∙ rw (y N M (used_by (rows_in ns) (spans_in text ms) s.nodes s.numbers)) (run_ret _ _); within = tt };
   }
@@ -267,17 +259,17 @@ module _ {text ns ms : List ℕ} (k d : ℕ) (inside : ℕ → ℕ → ℕ → �
   unfolding parens
   child_empty v x j e l = head_empty (in_parens inside) m (λ N M o. refl) v x j e l
 
-  pub child_wrong : {r : Refusal} {c : Cursor} → h ≡ Wrong r c → Reads text (λ N M o. bind (opener k d) (in_parens inside N M o)) s ns ms (Refused r c) ns ms
+  pub child_wrong : {r : Refusal} {c : Cursor} → h ≡ Wrong r c → Reads text (λ N M o. bind (opener k d) (in_parens inside N M o)) s ns ms (Err (Refused r c)) ns ms
   unfolding parens
   child_wrong x = head_wrong (in_parens inside) m (λ N M o. refl) x
 
 module _ {text ns ms : List ℕ} (d : ℕ) {s : Spot} {r : Answer} {ns' ms' : List ℕ} where
-  pub as_line : Reads text (λ N M o. bind (opener kind_line_string d) (in_parens (λ N M. line_in N M enough) N M o)) s ns ms r ns' ms' → Reads text (parts.line_of d) s ns ms r ns' ms'
-  unfolding line_of
+  pub as_line : Reads text (unnamed_of kind_line_string (λ d' i. list_of i (coord_of d')) d) s ns ms r ns' ms' → Reads text (parts.line_of d) s ns ms r ns' ms'
+  unfolding line_of line_in line_body
   as_line m = record { met = λ N M g u. m.met N M g u }
 
-  pub as_polygon : Reads text (λ N M o. bind (opener kind_polygon d) (in_parens (λ N M. polygon_in N M enough) N M o)) s ns ms r ns' ms' → Reads text (parts.polygon_of d) s ns ms r ns' ms'
-  unfolding polygon_of
+  pub as_polygon : Reads text (unnamed_of kind_polygon (λ d' i. list_of i (parts.line_of d')) d) s ns ms r ns' ms' → Reads text (parts.polygon_of d) s ns ms r ns' ms'
+  unfolding polygon_of polygon_in lines_body
   as_polygon m = record { met = λ N M g u. m.met N M g u }
 
 -- a geometry from its name on
@@ -301,7 +293,7 @@ module _ {text ns ms : List ℕ} {p : P spec.Head} (depth : ℕ) {s : Spot} {h :
   unfolding geometry_by
   named_empty_law v x j e l = head_empty (after_name depth) m (λ N M o. refl) v x j e l
 
-  pub named_wrong : {r : Refusal} {c : Cursor} → h ≡ Wrong r c → Reads text (named_of p depth) s ns ms (Refused r c) ns ms
+  pub named_wrong : {r : Refusal} {c : Cursor} → h ≡ Wrong r c → Reads text (named_of p depth) s ns ms (Err (Refused r c)) ns ms
   unfolding geometry_by
   named_wrong x = head_wrong (after_name depth) m (λ N M o. refl) x
 
@@ -406,7 +398,7 @@ collection_more N M zero d p o h = absurd (h refl)
 collection_more N M (suc n) d p o h = rw (sub-one (suc n))
 
 module _ {text ns ms : List ℕ} (depth d p : ℕ) {s : Spot} {r : Answer} where
-  pub collection_deep : depth ≡ 0 → r ≡ Stopped (refusal too_deep p) (cursor_at s.at) → Reads text (collection_of depth d p) s ns ms r ns ms
+  pub collection_deep : depth ≡ 0 → r ≡ Err (Stopped (refusal too_deep p) (cursor_at s.at)) → Reads text (collection_of depth d p) s ns ms r ns ms
   unfolding collection
   collection_deep e j = record { met = λ N M g u. rw (e, j) (record { is = run_ret _ _; within = tt }) }
 

@@ -2,6 +2,7 @@
 -- Assumes nothing.
 use mathlib.Core.Path.{◌≡◌, refl, ap, sym, ◌∙◌}
 use mathlib.Core.Bool.{true, false}
+use Rattle.std.specs.Prelude.{Ok, Err}
 use mathlib.Core.List.{List}
 use Prim.Native.Nat.{ℕ, ◌+◌, ◌≤◌, ◌<◌, ◌^◌}
 use native.Mathlib.Omega.{arith}
@@ -23,16 +24,15 @@ use Rattle.grammar.specs.Grammar as spec
 use Rattle.grammar.specs.Grammar.{refused, root}
 use Rattle.grammar.specs.Reading.{reading}
 use Rattle.answers.specs.declared.Spot.{Spot}
-use Rattle.answers.specs.declared.Answer.{Answer}
-use Rattle.answers.specs.declared.Answer.TheVariants.{Read, Refused, Stopped}
-use Rattle.answers.specs.Reading.{spot, got_of, Within, Reads, Fits}
+use Rattle.answers.specs.declared.Unread.TheVariants.{Refused, Stopped}
+use Rattle.answers.specs.Reading.{Answer, spot, got_of, Within, Reads, Fits}
 use Rattle.wkt.specs.Parts.{root_of}
 use Rattle.wkt.specs.Leaves.{Leaves, root_in, Finishes}
 use Rattle.store.specs.declared.ReadAnswer.{ReadAnswer}
 
 -- what the slices are left with
 module _ {ns ms : List ℕ} {got : Answer} {ns' ms' : List ℕ} where
-  pub finish_done : {end : Spot} {a : ReadAnswer} → got ≡ Read end → Within (node_room ns) (number_room ms) got → Accepts ns ms end.nodes end.numbers a ns' ms' → Finishes got ns ms a ns' ms'
+  pub finish_done : {end : Spot} {a : ReadAnswer} → got ≡ Ok end → Within (node_room ns) (number_room ms) got → Accepts ns ms end.nodes end.numbers a ns' ms' → Finishes got ns ms a ns' ms'
   finish_done {end} e v done =
       let w = rw e at v in
       record {
@@ -43,10 +43,10 @@ module _ {ns ms : List ℕ} {got : Answer} {ns' ms' : List ℕ} where
         });
       }
 
-  pub finish_refused : {r : Refusal} {c : Cursor} {a : ReadAnswer} → got ≡ Refused r c → Leaves (refused r) ns ms a ns' ms' → Finishes got ns ms a ns' ms'
+  pub finish_refused : {r : Refusal} {c : Cursor} {a : ReadAnswer} → got ≡ Err (Refused r c) → Leaves (refused r) ns ms a ns' ms' → Finishes got ns ms a ns' ms'
   finish_refused e l = record { met = λ text. rw e l }
 
-  pub finish_stopped : {r : Refusal} {c : Cursor} {a : ReadAnswer} → got ≡ Stopped r c → Leaves (refused r) ns ms a ns' ms' → Finishes got ns ms a ns' ms'
+  pub finish_stopped : {r : Refusal} {c : Cursor} {a : ReadAnswer} → got ≡ Err (Stopped r c) → Leaves (refused r) ns ms a ns' ms' → Finishes got ns ms a ns' ms'
   finish_stopped e l = record { met = λ text. rw e (record { answer = l.answer; nodes = l.nodes; numbers = l.numbers }) }
 
 -- the root

@@ -1,5 +1,5 @@
 -- What a call of each part of the reader of coordinates comes to: it is lent the number rows only, and says its equation for all node rows.
-use Rattle.std.specs.Prelude.{◌≡◌, List, ℕ, zero, suc, ◌+◌, ◌≤◌, ◌<◌, ◌^◌, length}
+use Rattle.std.specs.Prelude.{◌≡◌, Option, Some, Ok, Err, List, ℕ, zero, suc, ◌+◌, ◌≤◌, ◌<◌, ◌^◌, length}
 use Rattle.tokenizer.specs.Tokens.{cursor_at}
 use Rattle.token_stream.specs.Stream.{stream}
 use Rattle.token_stream.specs.Sound.{Sound}
@@ -9,9 +9,8 @@ use Rattle.grammar.specs.Grammar as spec
 use Rattle.grammar.specs.Grammar.{Got}
 use Rattle.answers.specs.declared.State.{State}
 use Rattle.answers.specs.declared.Spot.{Spot}
-use Rattle.answers.specs.declared.Answer.{Answer}
-use Rattle.answers.specs.declared.Answer.TheVariants.{Read, Refused, Stopped}
-use Rattle.answers.specs.Reading.{spot, state, used_by, got_of, end_of, Within, Met, Part}
+use Rattle.answers.specs.declared.Unread.TheVariants.{Refused, Stopped}
+use Rattle.answers.specs.Reading.{Answer, spot, state, used_by, got_of, end_of, Within, Met, Part}
 
 -- what is asked of a state before numbers are read token by token: the rows used are within the room, and what is held was
 -- read of the text
@@ -27,9 +26,9 @@ pub record FitsNumbers (text ms : List ℕ) (s : Spot) : Type 0 where
 
 -- and of what came before
 abbrev pub ReadyAfter : List ℕ → List ℕ → Answer → Type 0
-ReadyAfter text ms (Read s) = FitsNumbers text ms s
-ReadyAfter text ms (Refused r c) = Unit {0}
-ReadyAfter text ms (Stopped r c) = Unit {0}
+ReadyAfter text ms (Ok s) = FitsNumbers text ms s
+ReadyAfter text ms (Err (Refused r c)) = Unit {0}
+ReadyAfter text ms (Err (Stopped r c)) = Unit {0}
 
 -- one that goes on from an answer; g is what it reads there
 pub record MetOn (text : List ℕ) (g : ℕ → Got → P Got) (a : Answer) (ms : List ℕ) (r : Answer) (ms' : List ℕ) : Type 0 where
@@ -58,12 +57,12 @@ pub data Numbers (text : List ℕ) (i used : ℕ) (ms : List ℕ) : ℕ → ℕ 
   none : Numbers text i used ms zero used i ms
   more :
       {k u c r : ℕ} {ms₁ ms₂ : List ℕ} → Numbers text i used ms k u c ms₁ → length ms₂ ≡ length ms₁ →
-      ((e n : ℕ) → MetNumber text e (state (cursor_at c) n u) ms₁ (Read (spot r n (suc u))) ms₂) → Numbers text i used ms (suc k) (suc u) r ms₂
+      ((e n : ℕ) → MetNumber text e (state (cursor_at c) n u) ms₁ (Ok (spot r n (suc u))) ms₂) → Numbers text i used ms (suc k) (suc u) r ms₂
 
--- where r lies behind i, so many numbers were read
-pub record MetPlains (text : List ℕ) (width i used : ℕ) (ms : List ℕ) (r : ℕ) (ms' : List ℕ) : Type 0 where
+-- where they were all read, up to `end`, so many numbers were
+pub record MetPlains (text : List ℕ) (width i used : ℕ) (ms : List ℕ) (r : Option ℕ) (ms' : List ℕ) : Type 0 where
   pub kept : Unmoved text used ms ms'
-  pub numbers : i < r → Numbers text i used ms width (used + width) r ms'
+  pub numbers : (end : ℕ) → r ≡ Some end → Numbers text i used ms width (used + width) end ms'
 
 -- what is asked of a state before a bare point is read, whose first token is held
 pub record FitsHeld (text ns ms : List ℕ) (s : State) : Type 0 where

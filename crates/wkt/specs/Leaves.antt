@@ -6,8 +6,7 @@ use Rattle.store.specs.Rows.{rows_in, spans_in}
 use Rattle.grammar.specs.Asks.{run, answer_in}
 use Rattle.grammar.specs.Grammar.{out, Got, ok, refused, halt, root}
 use Rattle.grammar.specs.Reading.{enough}
-use Rattle.answers.specs.declared.Answer.{Answer}
-use Rattle.answers.specs.Reading.{got_of}
+use Rattle.answers.specs.Reading.{Answer, got_of}
 use Rattle.store.specs.declared.ReadAnswer.{ReadAnswer}
 use Rattle.store.specs.Answers as answers
 use Rattle.store.specs.Answers.{Outcome, filled, read_answer}

@@ -4,7 +4,7 @@ use Rattle.kinds.specs.Kinds.{kind_point, kind_line_string, kind_multi_point, ki
 use Rattle.limits.specs.Limits.{depth_limit}
 use Rattle.grammar.specs.Asks.{bind}
 use Rattle.grammar.specs.Grammar as spec
-use Rattle.grammar.specs.Grammar.{root_head}
+use Rattle.grammar.specs.Grammar.{opener, root_head}
 use Rattle.grammar.specs.Reading.{enough}
 use Rattle.answers.specs.Reading.{Part, list_of}
 
@@ -29,15 +29,13 @@ point_in_of d p N M = spec.point_in N M enough d p
 abbrev pub bare_point_of : ℕ → ℕ → Part
 bare_point_of d p N M = spec.bare_point N M enough d p
 
-abbrev pub line_in_of : ℕ → ℕ → Part
-line_in_of d p N M = spec.line_in N M enough d p
-
-abbrev pub polygon_in_of : ℕ → ℕ → Part
-polygon_in_of d p N M = spec.polygon_in N M enough d p
-
 -- what was opened at p is a row, a body, and the closing token
 abbrev pub with_body : ℕ → ℕ → (ℕ → Part) → ℕ → Part
 with_body k d body p N M o = spec.opened N k d (λ i. body i N M) p o
+
+-- the same without a name: in parentheses, or EMPTY
+abbrev pub unnamed_of : ℕ → (ℕ → ℕ → Part) → ℕ → Part
+unnamed_of k holds d N M o = bind (opener k d) (spec.parens N M enough (λ d' p. with_body k d' (holds d') p N M) o)
 
 -- kinds 1 to 5 as they are; whatever else is opened is a multipolygon
 unfoldable pub simple_kind : ℕ → ℕ

@@ -4,8 +4,7 @@
 mod coord;
 mod geometrycollection;
 mod linestring;
-mod multipoint;
-mod multipolygon;
+mod parts;
 mod point;
 mod polygon;
 
@@ -16,13 +15,18 @@ ghost use Rattle.answers.specs.Reading.{spot, Fits, Within, Reads, closed_of};
 ghost use Rattle.wkt.specs.Parts.{simple_kind, body_of, simple_of, child_of, root_of};
 ghost use Rattle.wkt.specs.Leaves.{Leaves, Finishes, root_in};
 
-use answers::{Answer, Spot, moved, open_node};
+use answers::{Spot, Unread, moved, open_node};
+use coord::Coordinate;
 use headings::Head;
 use kinds::{
     KIND_GEOMETRYCOLLECTION, KIND_LINESTRING, KIND_MULTILINESTRING, KIND_MULTIPOINT,
     KIND_MULTIPOLYGON, KIND_POINT,
 };
 use limits::{DEPTH_LIMIT, TEXT_LIMIT};
+use linestring::LineString;
+use parts::{InParens, by_commas};
+use point::Point;
+use polygon::Polygon;
 use refusals::{ILL_FORMED_UTF8, TEXT_TOO_LONG};
 use store::ReadAnswer;
 
@@ -36,16 +40,16 @@ fn body(
     row: usize,
     dimension: u32,
     s: Spot,
-) -> Answer
+) -> Result<Spot, Unread>
     requires { (row < s.nodes) × Fits text.now nodes.old numbers.old s }
     ensures { Reads text.now (closed_of (body_of kind dimension row)) s nodes.old numbers.old result nodes.new numbers.new }
 {
     match kind {
-        KIND_POINT => point::body(text, nodes, numbers, row, dimension, s),
-        KIND_LINESTRING => linestring::coords(text, nodes, numbers, row, dimension, s),
-        KIND_MULTIPOINT => multipoint::points(text, nodes, numbers, row, dimension, s),
-        KIND_MULTIPOLYGON => multipolygon::polygons(text, nodes, numbers, row, dimension, s),
-        _ => polygon::lines(text, nodes, numbers, row, dimension, s),
+        KIND_POINT => Point::body(text, nodes, numbers, row, dimension, s),
+        KIND_LINESTRING => by_commas::<Coordinate>(text, nodes, numbers, row, dimension, s),
+        KIND_MULTIPOINT => by_commas::<Point>(text, nodes, numbers, row, dimension, s),
+        KIND_MULTIPOLYGON => by_commas::<Polygon>(text, nodes, numbers, row, dimension, s),
+        _ => by_commas::<LineString>(text, nodes, numbers, row, dimension, s),
     }
 }
 
@@ -69,22 +73,25 @@ fn simple(
     dimension: u32,
     place: usize,
     s: Spot,
-) -> Answer
+) -> Result<Spot, Unread>
     requires { Fits text.now nodes.old numbers.old s }
     ensures { Reads text.now (simple_of kind dimension place) s nodes.old numbers.old result nodes.new numbers.new }
 {
     let row = s.nodes;
     let named = simple_kind(kind);
-    let begun = open_node(nodes, named, dimension, place, s);
-    let Answer::Read(here) = begun else {
-        return begun;
-    };
+    let here = open_node(nodes, named, dimension, place, s)?;
     body(text, nodes, numbers, named, row, dimension, here)
 }
 
 // A geometry of a collection, from its name on; `depth` more collections may be opened.
 #[cycle(geometry_collection)]
-fn geometry(text: &[u8], nodes: &mut [u32], numbers: &mut [u32], depth: u32, s: Spot) -> Answer
+fn geometry(
+    text: &[u8],
+    nodes: &mut [u32],
+    numbers: &mut [u32],
+    depth: u32,
+    s: Spot,
+) -> Result<Spot, Unread>
     requires { Fits text.now nodes.old numbers.old s }
     ensures { Reads text.now (child_of depth) s nodes.old numbers.old result nodes.new numbers.new }
 {
@@ -100,12 +107,12 @@ fn geometry(text: &[u8], nodes: &mut [u32], numbers: &mut [u32], depth: u32, s: 
         Head::Empty(kind, dimension, place, at) => {
             open_node(nodes, kind, dimension, place, moved(at, s))
         }
-        Head::Wrong(r, cursor) => Answer::Refused(r, cursor),
+        Head::Wrong(r, cursor) => Err(Unread::Refused(r, cursor)),
     }
 }
 
 // The geometry that a text begins with.
-fn root(text: &[u8], nodes: &mut [u32], numbers: &mut [u32]) -> Answer
+fn root(text: &[u8], nodes: &mut [u32], numbers: &mut [u32]) -> Result<Spot, Unread>
     requires { length text.now + 2 < 2 ^ 32 }
     ensures { Reads text.now root_of (spot 0 0 0) nodes.old numbers.old result nodes.new numbers.new }
 {
@@ -136,19 +143,19 @@ fn root(text: &[u8], nodes: &mut [u32], numbers: &mut [u32]) -> Answer
                 },
             )
         }
-        Head::Wrong(r, cursor) => Answer::Refused(r, cursor),
+        Head::Wrong(r, cursor) => Err(Unread::Refused(r, cursor)),
     }
 }
 
 // What the slices are left with: the rows used and zeros, or all zeros.
-fn finish(nodes: &mut [u32], numbers: &mut [u32], got: Answer) -> ReadAnswer
+fn finish(nodes: &mut [u32], numbers: &mut [u32], got: Result<Spot, Unread>) -> ReadAnswer
     requires { Within (node_room nodes.old) (number_room numbers.old) got }
     ensures { Finishes got nodes.old numbers.old result nodes.new numbers.new }
 {
     match got {
-        Answer::Read(end) => store::accept(nodes, numbers, end.nodes, end.numbers),
-        Answer::Refused(r, _) => store::refuse(nodes, numbers, r.number, r.place),
-        Answer::Stopped(r, _) => store::refuse(nodes, numbers, r.number, r.place),
+        Ok(end) => store::accept(nodes, numbers, end.nodes, end.numbers),
+        Err(Unread::Refused(r, _)) => store::refuse(nodes, numbers, r.number, r.place),
+        Err(Unread::Stopped(r, _)) => store::refuse(nodes, numbers, r.number, r.place),
     }
 }
 

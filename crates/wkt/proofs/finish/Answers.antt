@@ -1,12 +1,11 @@
 -- `wkt::finish` meets its contract: each way of the answer leaves the slices as the grammar's answer asks.
-use Rattle.wkt.proofs.Returns.{finish_done, finish_refused, finish_stopped}
+use Rattle.wkt.proofs.Returns.{finish_done, finish_refused}
 use Rattle.wkt.proofs.finish.Goals as goal
 
-pub returns-in-Read : goal.returns-in-Read
-returns-in-Read c = finish_done c.in-Read.is c.requires c.accept.ensures
+pub returns-in-Ok : goal.returns-in-Ok
+returns-in-Ok c = finish_done c.in-Ok.is c.requires c.accept.ensures
 
-pub returns-in-Refused : goal.returns-in-Refused
-returns-in-Refused c = finish_refused c.in-Refused.is c.refuse.ensures
-
-pub returns-in-Stopped : goal.returns-in-Stopped
-returns-in-Stopped c = finish_stopped c.in-Stopped.is c.refuse-in-Stopped.ensures
+pub returns-in-Err-Refused : goal.returns-in-Err-Refused
+returns-in-Err-Refused c =
+    let a = c.in-Err-Refused.is in
+    finish_refused (rw (rw a at c.in-Err-Refused.field-0-is) at a) c.refuse.ensures
