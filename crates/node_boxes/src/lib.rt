@@ -18,7 +18,7 @@ use nodes::{Met, Visit};
 use refusals::{ILL_FORMED_STORE, NO_FINITE_NUMBER, NO_ROOM, NUMBER_TOO_LARGE};
 use rounding::Reckoned;
 use store::{NODE_WIDTH, NUMBER_WIDTH};
-use walk::CELLS;
+use walk::{ABOVE, FRAMES};
 
 // How many numbers of a coordinate have sides: X and Y, each on an axis of its own.
 const AXES: usize = 2;
@@ -225,15 +225,15 @@ fn fill(text: &[u8], nodes: &[u32], numbers: &[u32], table: &mut [i64]) -> BoxAn
     ensures { FilledBy text.now numbers.now table.old result table.new (whole_walk nodes.now (number_room numbers.now)) }
 {
     let count = store::number_room(numbers);
-    let mut cells = [0; CELLS];
-    let mut w = walk::start(&mut cells);
+    let mut frames = [ABOVE; FRAMES];
+    let mut w = walk::start(&mut frames);
     let mut good = true;
     let mut found = BoxAnswer {
         number: 0,
         place: 0,
     };
     loop {
-        let s = walk::step(nodes, count, &mut cells, w);
+        let s = walk::step(nodes, count, &mut frames, w);
         let met = s.met;
         match met {
             Met::Node(v) => {

@@ -18,18 +18,19 @@ use Rattle.nodes.proofs.Meets.{follow_none, follow_both}
 use Rattle.walk.specs.declared.Walk.{Walk}
 use Rattle.walk.specs.declared.Walked.{Walked}
 use Rattle.std.specs.Prelude.{Option, Some, None}
-use Rattle.walk.specs.Walk.{cells, After, beginning, entering, has_ended, walk_step, ahead_by}
+use Rattle.nodes.specs.declared.Frame.{Frame}
+use Rattle.walk.specs.Walk.{frames, After, beginning, entering, has_ended, walk_step, ahead_by}
 use Rattle.walk.proofs.Fed.{Reached, given_begin, given_to, given_ill, given_last}
 use Rattle.shape.specs.Walk.{rows_from, ahead, whole_walk}
 use Rattle.shape.proofs.Stepped.{rows_in_law, rows_past, Forward, SteppedTo, Stepped, stepped}
 
-pub record Walking (nodes : List ℕ) (count : ℕ) (s : List ℕ) (w : Walk) (P : List Met → Type 0) : Type 0 where
+pub record Walking (nodes : List ℕ) (count : ℕ) (s : List Frame) (w : Walk) (P : List Met → Type 0) : Type 0 where
   pub reached : Reached s w
   pub passed : List Met
   pub whole : whole_walk nodes count ≡ follow passed (ahead nodes count s w)
   pub holds : P passed
 
-pub begin : (nodes : List ℕ) (count : ℕ) (s₀ : List ℕ) {s : List ℕ} {w : Walk} {P : List Met → Type 0} → length s₀ ≡ cells → (w, s) ≡ beginning s₀ → P [] → Walking nodes count s w P
+pub begin : (nodes : List ℕ) (count : ℕ) (s₀ : List Frame) {s : List Frame} {w : Walk} {P : List Met → Type 0} → length s₀ ≡ frames → (w, s) ≡ beginning s₀ → P [] → Walking nodes count s w P
 begin nodes count s₀ {s} {w} {P} long e p =
     let b = given_begin s₀ long e in
     record {
@@ -46,7 +47,7 @@ Thing (met.End i n) = Unit {0}
 Thing met.Done = ⊥
 Thing met.Ill = ⊥
 
-module _ {nodes : List ℕ} {count : ℕ} {s : List ℕ} {w : Walk} {P : List Met → Type 0} {r : Walked} {s' : List ℕ} (t : Walking nodes count s w P) (e : (r, s') ≡ walk_step nodes count s w) where
+module _ {nodes : List ℕ} {count : ℕ} {s : List Frame} {w : Walk} {P : List Met → Type 0} {r : Walked} {s' : List Frame} (t : Walking nodes count s w P) (e : (r, s') ≡ walk_step nodes count s w) where
   told : {m : Met} → r.met ≡ m → SteppedTo nodes count s w m r.next s'
   told {m} is =
       let a : Stepped nodes count s w (r, s') = subst (λ (a : After). Stepped nodes count s w a) (sym e) (stepped nodes count s w t.reached) in
@@ -79,18 +80,18 @@ module _ {nodes : List ℕ} {count : ℕ} {s : List ℕ} {w : Walk} {P : List Me
   ill is = t.whole ∙ ap (follow t.passed) (told is)
 
 -- ---- rows of a slice that are given one by one: whether those from i on are what the walk lacks is whether all are a tree
-pub record Giving (nodes : List ℕ) (count : ℕ) (s : List ℕ) (w : Walk) (i : ℕ) : Type 0 where
+pub record Giving (nodes : List ℕ) (count : ℕ) (s : List Frame) (w : Walk) (i : ℕ) : Type 0 where
   pub reached : Reached s w
   pub row : w.row ≡ i
   pub same : is_some (ahead_by count s w (rows_from nodes i)) ≡ is_some (whole_walk nodes count)
 
-pub giving_begin : (nodes : List ℕ) (count : ℕ) (s₀ : List ℕ) {s : List ℕ} {w : Walk} → length s₀ ≡ cells → (w, s) ≡ beginning s₀ → Giving nodes count s w 0
+pub giving_begin : (nodes : List ℕ) (count : ℕ) (s₀ : List Frame) {s : List Frame} {w : Walk} → length s₀ ≡ frames → (w, s) ≡ beginning s₀ → Giving nodes count s w 0
 giving_begin nodes count s₀ long e =
     let b = given_begin s₀ long e in
     record { reached = b.reached; row = b.row; same = ap is_some (b.whole count (rows_from nodes 0)) }
 
-module _ {nodes : List ℕ} {count : ℕ} {s : List ℕ} {w : Walk} {i : ℕ} (g : Giving nodes count s w i) where
-  module _ (r : Row) (is : r ≡ row_at nodes i) (h : i < node_room nodes) (fits : i + 1 < 2 ^ 64) {x : Option Walk} {s' : List ℕ} (e : (x, s') ≡ entering s count w r) where
+module _ {nodes : List ℕ} {count : ℕ} {s : List Frame} {w : Walk} {i : ℕ} (g : Giving nodes count s w i) where
+  module _ (r : Row) (is : r ≡ row_at nodes i) (h : i < node_room nodes) (fits : i + 1 < 2 ^ 64) {x : Option Walk} {s' : List Frame} (e : (x, s') ≡ entering s count w r) where
     counted : w.row + 1 < 2 ^ 64
     counted = omega (arith, g.row)
 

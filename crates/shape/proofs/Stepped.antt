@@ -7,19 +7,23 @@ use mathlib.Core.List.{List, [], ◌∷◌}
 use Prim.Native.Nat.{ℕ, ◌+◌, ◌-◌, ◌*◌, ◌≤◌, ◌<◌}
 use native.Mathlib.Omega.{arith}
 use lib.Dec.{eqb, leb, ltb}
+use lib.ListN.{drop}
+use Rattle.std.specs.Prelude.{Some, None}
 use borrow.Author.Tests.{ne_eqb, leb-true, leb-false, ltb-true, ltb-false, eqb-true, eqb-false}
 use Rattle.store.specs.Rows.{node_room, row_at, rows_in}
 use Rattle.nodes.specs.declared.Frame.{Frame}
+use Rattle.nodes.specs.declared.Visit.{Visit}
 use Rattle.nodes.specs.declared.Met.{Met}
 use Rattle.nodes.specs.declared.Met.TheVariants.{Node, End, Done, Ill}
 use Rattle.nodes.specs.Nodes.{no_kind, visit_of, is_spent, node_end, node_ends, still_open, follow, at_last, meets_rows, meets}
 use Rattle.nodes.proofs.Meets.{follow_both}
 use Rattle.walk.specs.declared.Walk.{Walk}
 use Rattle.walk.specs.declared.Coming.TheVariants as coming
-use Rattle.walk.specs.Walk.{frames, frame_at, walk_at, walked, After, ill, coming_in, coming_next, meeting, last_met, step_at, walk_step, open_at, ahead_by, NumbersIn}
-use Rattle.walk.proofs.Stack.{firsts_cut, firsts_past, open_from}
+use Rattle.walk.specs.Walk.{frames, frame_at, walk_at, walked, Taken, After, ill, coming_in, coming_next, meeting, last_met, met_by, step_to, step_at, walk_step, open_at, ahead_by, NumbersIn}
+use Rattle.walk.proofs.Firsts.{firsts_cut, firsts_past}
+use Rattle.walk.proofs.Stack.{open_past}
 use Rattle.walk.proofs.Nested.{nested_outer, outermost}
-use Rattle.walk.proofs.Fed.{Reached, MetTo, cut, nested_cut, wanted, met_row}
+use Rattle.walk.proofs.Fed.{Reached, MetBy, cut, nested_cut, wanted, met_row}
 use Rattle.shape.specs.Walk.{rows_from, ahead}
 
 -- ---- rows that are left
@@ -44,22 +48,22 @@ Numbered count Done = Unit {0}
 Numbered count Ill = Unit {0}
 
 -- ---- what a step tells: of a thing that is met, what is ahead after it
-pub record Forward (nodes : List ℕ) (count : ℕ) (s : List ℕ) (w : Walk) (m : Met) (w' : Walk) (s' : List ℕ) : Type 0 where
+pub record Forward (nodes : List ℕ) (count : ℕ) (s : List Frame) (w : Walk) (m : Met) (w' : Walk) (s' : List Frame) : Type 0 where
   pub is : ahead nodes count s w ≡ follow (m ∷ []) (ahead nodes count s' w')
   pub less : ahead_of nodes w' < ahead_of nodes w
   pub numbers : Numbered count m
   pub reached : Reached s' w'
 
-abbrev pub SteppedTo : List ℕ → ℕ → List ℕ → Walk → Met → Walk → List ℕ → Type 0
+abbrev pub SteppedTo : List ℕ → ℕ → List Frame → Walk → Met → Walk → List Frame → Type 0
 SteppedTo nodes count s w (Node v) w' s' = Forward nodes count s w (Node v) w' s'
 SteppedTo nodes count s w (End i n) w' s' = Forward nodes count s w (End i n) w' s'
 SteppedTo nodes count s w Done w' s' = ahead nodes count s w ≡ some []
 SteppedTo nodes count s w Ill w' s' = ahead nodes count s w ≡ none
 
-abbrev pub Stepped : List ℕ → ℕ → List ℕ → Walk → After → Type 0
+abbrev pub Stepped : List ℕ → ℕ → List Frame → Walk → After → Type 0
 Stepped nodes count s w a = SteppedTo nodes count s w a.0.met a.0.next a.1
 
-module _ (nodes : List ℕ) (count : ℕ) (s : List ℕ) (w : Walk) (reached : Reached s w) where
+module _ (nodes : List ℕ) (count : ℕ) (s : List Frame) (w : Walk) (reached : Reached s w) where
   -- no node is open: no row and no number is left
   last : still_open (open_at s w) ≡ [] → node_ends (open_at s w) w.row ≡ [] → Stepped nodes count s w (walked (last_met nodes count w) w, s)
   unfolding meets meets_rows at_last last_met
@@ -79,7 +83,7 @@ module _ (nodes : List ℕ) (count : ℕ) (s : List ℕ) (w : Walk) (reached : R
     f = frame_at s w.top
 
     abbrev outers : List Frame
-    outers = open_from s (w.top + 1)
+    outers = drop (w.top + 1) s
 
     split : open_at s w ≡ f ∷ outers
     split = cut s w reached in_frames
@@ -108,29 +112,28 @@ module _ (nodes : List ℕ) (count : ℕ) (s : List ℕ) (w : Walk) (reached : R
       lacking h = wanted s w reached in_frames count unspent (rows_from nodes w.row) ∙ rw (rows_past nodes w.row h)
 
       -- and the next row of the slice is given
-      met : w.row < node_room nodes → Stepped nodes count s w (meeting s count w (visit_of w.row w.number f (row_at nodes w.row)))
-      met here =
-          let a : After = meeting s count w (visit_of w.row w.number f (row_at nodes w.row)) in
-          go a.0.met a.0.next a.1 (met_row s w reached in_frames count unspent (row_at nodes w.row))
+      met : w.row < node_room nodes → Stepped nodes count s w (step_to s count w (visit_of w.row w.number f (row_at nodes w.row)))
+      met here = go (meeting s count w its_visit) (met_row s w reached in_frames count unspent (row_at nodes w.row))
         where
+          its_visit : Visit
+          its_visit = visit_of w.row w.number f (row_at nodes w.row)
+
           its_row : ahead nodes count s w ≡ ahead_by count s w (row_at nodes w.row ∷ rows_from nodes (w.row + 1))
           its_row = ap (ahead_by count s w) (rows_in_law nodes w.row here)
 
-          go : (m : Met) (w' : Walk) (s' : List ℕ) → MetTo count s w (row_at nodes w.row) m w' s' → SteppedTo nodes count s w m w' s'
-          go (Node v) w' s' g = record {
+          go : (a : Taken) → MetBy count s w (row_at nodes w.row) its_visit a → Stepped nodes count s w (met_by w its_visit a)
+          go (Some w', s') g = record {
             is = its_row ∙ g.is (rows_from nodes (w.row + 1)) ∙ rw g.row;
             less = omega (arith, g.row, g.top);
             numbers = g.numbers;
             reached = g.reached;
           }
-          go (End i n) w' s' g = absurd g
-          go Done w' s' g = absurd g
-          go Ill w' s' g = its_row ∙ g (rows_from nodes (w.row + 1))
+          go (None, s') g = its_row ∙ g (rows_from nodes (w.row + 1))
 
       child : Stepped nodes count s w (step_at nodes count s w (coming.Child f))
       child = go (ltb w.row (node_room nodes)) refl
         where
-          go : (a : Bool) → ltb w.row (node_room nodes) ≡ a → Stepped nodes count s w (cond a (meeting s count w (visit_of w.row w.number f (row_at nodes w.row))) (ill s w))
+          go : (a : Bool) → ltb w.row (node_room nodes) ≡ a → Stepped nodes count s w (cond a (step_to s count w (visit_of w.row w.number f (row_at nodes w.row))) (ill s w))
           go true x = met (ltb-true w.row (node_room nodes) x)
           go false x = lacking (ltb-false w.row (node_room nodes) x)
 
@@ -150,4 +153,4 @@ module _ (nodes : List ℕ) (count : ℕ) (s : List ℕ) (w : Walk) (reached : R
     where
       go : (a : Bool) → ltb w.top frames ≡ a → Stepped nodes count s w (step_at nodes count s w (cond a (coming_in (frame_at s w.top) w) coming.Last))
       go true x = in_frame (ltb-true w.top frames x)
-      go false x = let e = firsts_past (frame_at s) frames w.top (ltb-false w.top frames x) in none_open e
+      go false x = none_open (open_past s reached.long w.top (ltb-false w.top frames x))

@@ -2,6 +2,7 @@
 use Rattle.std.specs.Prelude.{Bool, ◌&&◌, List, [], ◌∷◌, ℕ, drop}
 use Rattle.std.proofs.Math.Option.{Option}
 use Rattle.store.specs.Rows.{Row}
+use Rattle.nodes.specs.declared.Frame.{Frame}
 use Rattle.nodes.specs.declared.Met.{Met}
 use Rattle.nodes.specs.Nodes.{above, meets}
 use Rattle.walk.specs.declared.Walk.{Walk}
@@ -13,7 +14,7 @@ abbrev pub rows_from : List ℕ → ℕ → List Row
 rows_from nodes i = drop i (all_rows nodes)
 
 -- what is still to be met
-abbrev pub ahead : List ℕ → ℕ → List ℕ → Walk → Option (List Met)
+abbrev pub ahead : List ℕ → ℕ → List Frame → Walk → Option (List Met)
 ahead nodes count s w = ahead_by count s w (rows_from nodes w.row)
 
 -- what is met in all

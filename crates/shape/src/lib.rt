@@ -8,17 +8,17 @@ ghost use Rattle.shape.specs.Store.{well_formed};
 ghost use Rattle.shape.specs.Walk.{are_rows, whole_walk};
 
 use store::{NODE_WIDTH, NUMBER_WIDTH};
-use walk::CELLS;
+use walk::{ABOVE, FRAMES};
 
 // Whether the rows are exactly one tree that needs `count` numbers.
 fn is_tree(nodes: &[u32], count: usize) -> bool
     ensures { result ≡ is_some (whole_walk nodes.now count) }
 {
-    let mut cells = [0; CELLS];
-    let mut w = walk::start(&mut cells);
+    let mut frames = [ABOVE; FRAMES];
+    let mut w = walk::start(&mut frames);
     for i in 0..store::node_room(nodes) {
         let entered = walk::enter(
-            &mut cells,
+            &mut frames,
             count,
             w,
             store::kind_at(nodes, i),
@@ -30,7 +30,7 @@ fn is_tree(nodes: &[u32], count: usize) -> bool
         };
         w = after;
     }
-    walk::has_ended(&cells, count, w)
+    walk::has_ended(&frames, count, w)
 }
 
 // The text of a number: what of its span lies in the text.

@@ -16,7 +16,7 @@ use Rattle.lists.proofs.Cases.{and_both}
 use Rattle.store.specs.Rows.{flat_rows, flat_spans, firsts}
 use Rattle.store.specs.Answers.{Outcome, filled, refused}
 use Rattle.store.proofs.Cells.{firsts_length}
-use Rattle.walk.proofs.Stack.{firsts_cut, firsts_past}
+use Rattle.walk.proofs.Firsts.{firsts_cut, firsts_past}
 use Rattle.shape.specs.Store.{well_formed}
 use Rattle.fields.specs.Fields.{head_length, content_end, is_field, is_sized}
 use Rattle.stored_form.specs.declared.Version.{Version}

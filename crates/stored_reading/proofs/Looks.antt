@@ -12,7 +12,8 @@ use Rattle.store.specs.Rows.{Row, row}
 use Rattle.lists.specs.Options.{is_some}
 use Rattle.walk.specs.declared.Walk.{Walk}
 use Rattle.std.specs.Prelude.{Option, Some, None}
-use Rattle.walk.specs.Walk.{cells, beginning, entering, has_ended, ahead_by}
+use Rattle.nodes.specs.declared.Frame.{Frame}
+use Rattle.walk.specs.Walk.{frames, beginning, entering, has_ended, ahead_by}
 use Rattle.walk.proofs.Fed.{Reached, Begun, given_begin, Gone, given_to, given_ill, given_last}
 use Rattle.fields.specs.Counts.{byte, count_in}
 use Rattle.fields.specs.Fields.{head_length, is_sized}
@@ -27,34 +28,34 @@ use Rattle.stored_form.proofs.Runs.{turn_on, turn_off, turn_none}
 
 -- ---- node fields
 -- what those still to come make of it, where all so far were met by the walk or not
-abbrev pub nodes_on : ℕ → Bool → List ℕ → Walk → Run Row → Seen
+abbrev pub nodes_on : ℕ → Bool → List Frame → Walk → Run Row → Seen
 nodes_on numbers well s w (faulty at) = Faulty at
 nodes_on numbers well s w (whole rs at) = Whole (well && is_some (ahead_by numbers s w rs)) at
 
-nodes_all : (numbers : ℕ) {s : List ℕ} {w : Walk} → Begun s w → (r : Run Row) → nodes_on numbers true s w r ≡ nodes_well numbers r
+nodes_all : (numbers : ℕ) {s : List Frame} {w : Walk} → Begun s w → (r : Run Row) → nodes_on numbers true s w r ≡ nodes_well numbers r
 nodes_all numbers b (faulty at) = refl
 nodes_all numbers b (whole rs at) = rw (b.whole numbers rs)
 
 -- none is a tree's any more, whatever comes
-nodes_none : (numbers : ℕ) (s s' : List ℕ) (w w' : Walk) (x : Row) (r : Run Row) → nodes_on numbers false s' w' r ≡ nodes_on numbers false s w (before x r)
+nodes_none : (numbers : ℕ) (s s' : List Frame) (w w' : Walk) (x : Row) (r : Run Row) → nodes_on numbers false s' w' r ≡ nodes_on numbers false s w (before x r)
 nodes_none numbers s s' w w' x (faulty at) = refl
 nodes_none numbers s s' w w' x (whole rs at) = refl
 
-module _ (numbers : ℕ) (s : List ℕ) (w : Walk) (x : Row) where
-  nodes_to : {s' : List ℕ} {w' : Walk} → Gone numbers s w x s' w' → (r : Run Row) → nodes_on numbers true s' w' r ≡ nodes_on numbers true s w (before x r)
+module _ (numbers : ℕ) (s : List Frame) (w : Walk) (x : Row) where
+  nodes_to : {s' : List Frame} {w' : Walk} → Gone numbers s w x s' w' → (r : Run Row) → nodes_on numbers true s' w' r ≡ nodes_on numbers true s w (before x r)
   nodes_to g (faulty at) = refl
   nodes_to g (whole rs at) = ap (λ b. Whole b at) (sym (g.same rs))
 
-  nodes_ill : (s' : List ℕ) (w' : Walk) → ((rs : List Row) → ahead_by numbers s w (x ∷ rs) ≡ none) → (r : Run Row) → nodes_on numbers false s' w' r ≡ nodes_on numbers true s w (before x r)
+  nodes_ill : (s' : List Frame) (w' : Walk) → ((rs : List Row) → ahead_by numbers s w (x ∷ rs) ≡ none) → (r : Run Row) → nodes_on numbers false s' w' r ≡ nodes_on numbers true s w (before x r)
   nodes_ill s' w' g (faulty at) = refl
   nodes_ill s' w' g (whole rs at) = rw (g rs)
 
-pub record LookingNodes (width : ℕ) (bytes : List ℕ) (start count numbers : ℕ) (s : List ℕ) (w : Walk) (well : Bool) (at i : ℕ) : Type 0 where
+pub record LookingNodes (width : ℕ) (bytes : List ℕ) (start count numbers : ℕ) (s : List Frame) (w : Walk) (well : Bool) (at i : ℕ) : Type 0 where
   pub within : i ≤ count
   pub same : nodes_on numbers well s w (nodes_from width bytes at (count - i)) ≡ nodes_seen width bytes start count numbers
   pub reached : well ≡ true → Reached s w × (w.row ≡ i)
 
-pub nodes_begin : (width : ℕ) (bytes : List ℕ) (start count numbers : ℕ) (s₀ : List ℕ) {s : List ℕ} {w : Walk} → length s₀ ≡ cells → (w, s) ≡ beginning s₀ → LookingNodes width bytes start count numbers s w true start 0
+pub nodes_begin : (width : ℕ) (bytes : List ℕ) (start count numbers : ℕ) (s₀ : List Frame) {s : List Frame} {w : Walk} → length s₀ ≡ frames → (w, s) ≡ beginning s₀ → LookingNodes width bytes start count numbers s w true start 0
 nodes_begin width bytes start count numbers s₀ long e =
     let b = given_begin s₀ long e in
     record { within = omega arith; same = rw sub-zero (nodes_all numbers b (nodes_from width bytes start count)); reached = λ z. (b.reached, b.row) }
@@ -63,7 +64,7 @@ nodes_begin width bytes start count numbers s₀ long e =
 pub node_room_law : (width : ℕ) (bytes : List ℕ) (at : ℕ) → is_sized node_tag (node_size width) bytes at ≡ true → node_after width at ≤ length bytes
 node_room_law width bytes at h = let b = sized_field node_tag (node_size width) bytes at h in omega (arith, has_room node_tag bytes at b.0, b.1)
 
-module _ {width : ℕ} {bytes : List ℕ} {start count numbers : ℕ} {s : List ℕ} {w : Walk} {well : Bool} {at i : ℕ} (l : LookingNodes width bytes start count numbers s w well at i) where
+module _ {width : ℕ} {bytes : List ℕ} {start count numbers : ℕ} {s : List Frame} {w : Walk} {well : Bool} {at i : ℕ} (l : LookingNodes width bytes start count numbers s w well at i) where
   module _ (h : i < count) where
     pub node_faulty : is_sized node_tag (node_size width) bytes at ≡ false → Faulty at ≡ nodes_seen width bytes start count numbers
     node_faulty e = rw (turn_off (is_sized node_tag (node_size width) bytes) (row_told width bytes) (node_after width) count i at h e) at l.same
@@ -93,7 +94,7 @@ module _ {width : ℕ} {bytes : List ℕ} {start count numbers : ℕ} {s : List 
         its_row : given ≡ row_told width bytes at
         its_row = rw (told, count_read bytes all (at + head_length + 2) (at + head_length + 2 + width) width (omega arith) narrow)
 
-        module _ {met : Option Walk} {s' : List ℕ} (entered : (met, s') ≡ entering s numbers w given) where
+        module _ {met : Option Walk} {s' : List Frame} (entered : (met, s') ≡ entering s numbers w given) where
           counted : w.row + 1 < 2 ^ 64
           counted = omega (arith, (l.reached z).1)
 

@@ -15,7 +15,7 @@ use refusals::{
 };
 use store::ReadAnswer;
 use stored_form::{Counts, Edition, HEAD_TAG, Head, NODE_TAG, Seen, Version};
-use walk::CELLS;
+use walk::{ABOVE, FRAMES};
 
 // Where the version stands, and where the counts begin.
 const VERSION_AT: usize = 3;
@@ -55,8 +55,8 @@ fn look_at_nodes(bytes: &[u8], width: usize, first: usize, count: usize, numbers
     requires { (width ≤ 4) × (count < 2 ^ 32) }
     ensures { result ≡ nodes_seen width bytes.now first count numbers }
 {
-    let mut cells = [0; CELLS];
-    let mut w = walk::start(&mut cells);
+    let mut frames = [ABOVE; FRAMES];
+    let mut w = walk::start(&mut frames);
     let mut well = true;
     let mut at = first;
     let mut i = 0;
@@ -69,7 +69,7 @@ fn look_at_nodes(bytes: &[u8], width: usize, first: usize, count: usize, numbers
         let end = parts + width;
         if well {
             let entered = walk::enter(
-                &mut cells,
+                &mut frames,
                 numbers,
                 w,
                 bytes[content] as u32,
@@ -88,7 +88,7 @@ fn look_at_nodes(bytes: &[u8], width: usize, first: usize, count: usize, numbers
         at = end;
         i += 1;
     }
-    Seen::Whole(well & walk::has_ended(&cells, numbers, w), at)
+    Seen::Whole(well & walk::has_ended(&frames, numbers, w), at)
 }
 
 // The place of the number field after `count` others.

@@ -14,7 +14,7 @@ use Rattle.lists.specs.Lists.{every}
 use Rattle.lists.proofs.Cases.{either, and_both}
 use Rattle.store.specs.Rows.{Row, node_room, number_room, span_length_at}
 use Rattle.store.proofs.Cells.{firsts_length}
-use Rattle.walk.proofs.Stack.{firsts_cut, firsts_past}
+use Rattle.walk.proofs.Firsts.{firsts_cut, firsts_past}
 use Rattle.fields.specs.Counts.{count_bytes}
 use Rattle.fields.specs.Fields.{head_length, longest, field}
 use Rattle.fields.proofs.Counts.{bytes_length}

@@ -11,7 +11,7 @@ use borrow.Rule.Slice.PartMut.{mid_of, put_mid, mid_len, same_len_mid}
 use Rattle.lists.specs.Lists.{All}
 use Rattle.store.specs.Rows.{node_room, number_room, kind_at, dimension_at, parts_at, row_at, span_at, firsts, rows_in, spans_in}
 use Rattle.tree.specs.TreeIn.{span_texts}
-use Rattle.walk.proofs.Stack.{firsts_cut, firsts_past}
+use Rattle.walk.proofs.Firsts.{firsts_cut, firsts_past}
 use Rattle.shape.specs.Numbers.{text_at}
 use Rattle.shape.specs.Store.{all_rows, all_spans}
 use Rattle.fields.specs.Counts.{count_bytes}

@@ -13,7 +13,7 @@ ghost use Rattle.strict.specs.Strict.{answer, first_fault, or_else, of_walk, str
 use kinds::{KIND_GEOMETRYCOLLECTION, KIND_LINESTRING, KIND_POLYGON};
 use nodes::{Met, Visit};
 use refusals::ILL_FORMED_STORE;
-use walk::CELLS;
+use walk::{ABOVE, FRAMES};
 
 // The fewest coordinates of a line string and of a ring that are not empty.
 const LINE_MIN: u32 = 2;
@@ -178,15 +178,15 @@ fn first_fault(text: &[u8], nodes: &[u32], numbers: &[u32]) -> StrictAnswer
     ensures { result ≡ of_walk text.now numbers.now (whole_walk nodes.now (number_room numbers.now)) }
 {
     let count = store::number_room(numbers);
-    let mut cells = [0; CELLS];
-    let mut w = walk::start(&mut cells);
+    let mut frames = [ABOVE; FRAMES];
+    let mut w = walk::start(&mut frames);
     let mut found = StrictAnswer {
         number: 0,
         letter: 0,
         row: 0,
     };
     loop {
-        let s = walk::step(nodes, count, &mut cells, w);
+        let s = walk::step(nodes, count, &mut frames, w);
         let met = s.met;
         match met {
             Met::Node(v) => {

@@ -17,7 +17,7 @@ use nodes::{Met, Visit};
 use pen::Pen;
 use refusals::{ILL_FORMED_STORE, NO_ROOM};
 use store::WriteAnswer;
-use walk::CELLS;
+use walk::{ABOVE, FRAMES};
 
 // Whether the rows are no tree; and if they are one, the pen after its text.
 #[derive(Drop)]
@@ -112,11 +112,11 @@ fn put_rows(out: &mut [u8], text: &[u8], nodes: &[u32], numbers: &[u32]) -> PutA
     ensures { PutRows text.now numbers.now (whole_walk nodes.now (number_room numbers.now)) result out.new }
 {
     let count = store::number_room(numbers);
-    let mut cells = [0; CELLS];
-    let mut w = walk::start(&mut cells);
+    let mut frames = [ABOVE; FRAMES];
+    let mut w = walk::start(&mut frames);
     let mut pen = Pen { at: 0, full: false };
     loop {
-        let s = walk::step(nodes, count, &mut cells, w);
+        let s = walk::step(nodes, count, &mut frames, w);
         let met = s.met;
         match met {
             Met::Node(v) => {

@@ -1,5 +1,6 @@
 pub mod Sizes
 pub mod Nested
+pub mod Firsts
 pub mod Stack
 pub mod Wants
 pub mod Steps

@@ -6,22 +6,23 @@ use mathlib.Core.List.{List}
 use Rattle.lists.specs.One.{One}
 use Rattle.lists.proofs.One.{one}
 use Rattle.store.specs.Rows.{Row}
+use Rattle.nodes.specs.declared.Frame.{Frame}
 use Rattle.walk.specs.declared.Walk.{Walk}
 use Rattle.walk.specs.Walk.{beginning, coming_next, entering, has_ended, walk_step}
 
--- the answer and the cells together
-module _ (cells : List ℕ) where
-  pub start_one : One (λ r. r ≡ beginning cells)
+-- the answer and the frames together
+module _ (frames : List Frame) where
+  pub start_one : One (λ r. r ≡ beginning frames)
   start_one = one
 
-  pub next_one : (w : Walk) → One (λ r. r ≡ coming_next cells w)
+  pub next_one : (w : Walk) → One (λ r. r ≡ coming_next frames w)
   next_one w = one
 
-  pub enter_one : (count : ℕ) (w : Walk) (met : Row) → One (λ r. r ≡ entering cells count w met)
+  pub enter_one : (count : ℕ) (w : Walk) (met : Row) → One (λ r. r ≡ entering frames count w met)
   enter_one count w met = one
 
-  pub has_ended_one : (count : ℕ) (w : Walk) → One (λ r. r ≡ has_ended cells count w)
+  pub has_ended_one : (count : ℕ) (w : Walk) → One (λ r. r ≡ has_ended frames count w)
   has_ended_one count w = one
 
-  pub step_one : (nodes : List ℕ) (count : ℕ) (w : Walk) → One (λ r. r ≡ walk_step nodes count cells w)
+  pub step_one : (nodes : List ℕ) (count : ℕ) (w : Walk) → One (λ r. r ≡ walk_step nodes count frames w)
   step_one nodes count w = one

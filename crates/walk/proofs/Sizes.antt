@@ -1,11 +1,11 @@
 -- Laws of sizes that fit, and of the tests for them.
 -- Assumes nothing.
-use mathlib.Core.Path.{◌≡◌, sym}
-use mathlib.Core.Bool.{Bool, true, false, false≢true, not, ◌&&◌, ◌||◌, and-eq-true_iff}
-use Prim.Native.Nat.{ℕ, zero, suc, ◌+◌, ◌-◌, ◌≤◌, ◌<◌}
+use mathlib.Core.Path.{◌≡◌, refl, sym}
+use mathlib.Core.Bool.{Bool, true, false, false≢true, not, ◌&&◌, ◌||◌}
+use Prim.Native.Nat.{ℕ, ◌+◌, ◌-◌, ◌≤◌, ◌<◌}
 use native.Mathlib.Omega.{arith}
 use native.Mathlib.Decide.{dec_lt}
-use lib.Dec.{eqb, leb, ltb}
+use lib.Dec.{leb, ltb}
 use borrow.Author.Tests.{le-leb, lt-leb, leb-true, ltb-true}
 
 -- of `count` numbers there are `need` from `number` on
@@ -19,13 +19,14 @@ some_there count number need h = go (dec_lt (count - number) need)
     go (yes l) = rw (lt-leb need (count - number) l, lt-leb (number + need) count (omega arith))
     go (no l) = rw (le-leb need (count - number) (omega (arith, l)), le-leb (number + need) count (omega (arith, l)))
 
-pub both_left : (a b : Bool) → (a && b) ≡ true → a ≡ true
-both_left a b e = ((and-eq-true_iff a b).0 e).0
+-- a node may not be opened, or no frame is left; or it may, and one is
+pub not_pushed : (a b : Bool) → (not a || b) ≡ true → (a && not b) ≡ false
+not_pushed true b e = rw e
+not_pushed false b e = refl
 
--- the second of two tests, that a number is not 0
-pub both_right : (a : Bool) (n : ℕ) → (a && not (eqb n 0)) ≡ true → 0 < n
-both_right a zero e = absurd (false≢true ((and-eq-true_iff a false).0 e).1)
-both_right a (suc n) e = omega arith
+pub pushed : (a b : Bool) → (not a || b) ≡ false → (a ≡ true) × (b ≡ false)
+pushed true b e = (refl, e)
+pushed false b e = absurd (false≢true (sym e))
 
 -- a collection that may be opened
 pub below_limit : (b : Bool) (n m : ℕ) → b ≡ true → (not b || ltb n m) ≡ true → n < m

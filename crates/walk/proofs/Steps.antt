@@ -1,55 +1,37 @@
 -- The walk's definition, a test of the code at a time.
 -- Assumes nothing.
 use mathlib.Core.Path.{◌≡◌, refl, sym, ap, ◌∙◌}
-use mathlib.Core.Bool.{Bool, true, false, cond, not, ◌&&◌}
+use mathlib.Core.Bool.{Bool, true, false, cond}
 use mathlib.Core.List.{List}
 use Prim.Native.Nat.{ℕ, ◌+◌, ◌-◌, ◌^◌, ◌≤◌, ◌<◌}
 use native.Mathlib.Omega.{arith}
 use lib.Dec.{eqb, leb, ltb}
+use lib.ListN.{length}
 use borrow.Author.Tests.{ltb-true, leb-false, lt-ltb, le-ltb}
 use Rattle.store.specs.Rows.{Row, row, node_room, row_at}
 use Rattle.nodes.specs.declared.Frame.{Frame}
 use Rattle.nodes.specs.declared.Visit.{Visit}
-use Rattle.nodes.specs.declared.Met.{Met}
 use Rattle.nodes.specs.declared.Met.TheVariants as met
-use Rattle.nodes.specs.Nodes.{no_kind, visit_of, numbers_of, is_leaf, is_allowed, may_open, frame_of}
+use Rattle.nodes.specs.Nodes.{no_kind, visit_of}
 use Rattle.walk.specs.declared.Walk.{Walk}
 use Rattle.walk.specs.declared.Coming.TheVariants.{Child, End, Last}
 use Rattle.std.specs.Prelude.{Option, Some, None}
-use Rattle.walk.specs.Walk.{frames, HasChild, frame_at, put_frame, put_next, walk_at, walked, After, ill, coming_in, coming_next, passing_leaf, pushing, meeting, wanted_from, is_node, entered_by, entering, walk_step}
+use Rattle.walk.specs.Walk.{frames, HasChild, frame_at, walk_at, walked, ill, coming_in, coming_next, meeting, wanted_from, entering, met_by, walk_step}
 use Rattle.walk.proofs.Wants.{wants_here, wants_below}
-
--- what is met is a node, or it is none
-pub node_met : {m : Met} {v : Visit} → m ≡ met.Node v → is_node m ≡ true
-node_met e = rw e
-
-pub not_node : (m : Met) → ((v : Visit) → m ≡ met.Node v → ⊥) → is_node m ≡ false
-not_node (met.Node v) h = absurd (h v refl)
-not_node (met.End i n) h = refl
-not_node met.Done h = refl
-not_node met.Ill h = refl
 
 -- ---- a row that is given
 -- a node wants a child, and the row can be counted
-module _ (s : List ℕ) (w : Walk) (r : Row) (t : ℕ) (e : wanted_from s w.top ≡ Some t) (counted : w.row + 1 < 2 ^ 64) (f : Frame) (i : f ≡ frame_at s t) where
+module _ (s : List Frame) (long : length s ≡ frames) (w : Walk) (r : Row) (t : ℕ) (e : wanted_from s w.top ≡ Some t) (counted : w.row + 1 < 2 ^ 64) (f : Frame) (i : f ≡ frame_at s t) where
   pub has_child : HasChild (walk_at w.row w.number t) (visit_of w.row w.number f r)
   has_child =
-      let h = wants_below s e in
+      let h = wants_below s long e in
       record { row = counted; top = h.inside; next = rw i (leb-false (frame_at s t).parts (frame_at s t).next h.unspent) }
 
-  enters : (count : ℕ) → entering s count w r ≡ entered_by (meeting s count (walk_at w.row w.number t) (visit_of w.row w.number f r))
+  pub enters : (count : ℕ) → meeting s count (walk_at w.row w.number t) (visit_of w.row w.number f r) ≡ entering s count w r
   unfolding entering
   enters count = rw (e, lt-ltb (w.row + 1) (2 ^ 64) counted, i)
 
-  -- a node was met; or none was
-  module _ (count : ℕ) (a : After) (m : a ≡ meeting s count (walk_at w.row w.number t) (visit_of w.row w.number f r)) where
-    pub enters_to : is_node a.0.met ≡ true → (Some a.0.next, a.1) ≡ entering s count w r
-    enters_to n = rw (enters count, ← m, n)
-
-    pub enters_ill : is_node a.0.met ≡ false → (None, a.1) ≡ entering s count w r
-    enters_ill n = rw (enters count, ← m, n)
-
-module _ (s : List ℕ) (count : ℕ) (w : Walk) (r : Row) where
+module _ (s : List Frame) (count : ℕ) (w : Walk) (r : Row) where
   pub none_wanted : wanted_from s w.top ≡ None → (None, s) ≡ entering s count w r
   unfolding entering
   none_wanted e = rw e
@@ -60,7 +42,7 @@ module _ (s : List ℕ) (count : ℕ) (w : Walk) (r : Row) where
 
 -- ---- a row of the slice
 -- a child is wanted of an open node that has one to come
-module _ (s : List ℕ) (w : Walk) (f : Frame) where
+module _ (s : List Frame) (w : Walk) (f : Frame) where
   wanted_of : coming_next s w ≡ Child f → (w.top < frames) × (f.next < f.parts) × (f ≡ frame_at s w.top)
   unfolding coming_next coming_in
   wanted_of e = go (ltb w.top frames) refl (leb (frame_at s w.top).parts (frame_at s w.top).next) refl (eqb (frame_at s w.top).kind no_kind) e
@@ -73,55 +55,21 @@ module _ (s : List ℕ) (w : Walk) (f : Frame) where
           let i : frame_at s w.top ≡ f = cc in
           (ltb-true w.top frames x, rw i at (leb-false (frame_at s w.top).parts (frame_at s w.top).next y), sym i)
 
--- what is met, told by what comes of the row: the node itself, or nothing, and then the walk stays
-abbrev met_by : Walk → Visit → Option Walk × List ℕ → After
-met_by w v (Some w', s) = (walked (met.Node v) w', s)
-met_by w v (None, s) = ill s w
-
-module _ (s : List ℕ) (count : ℕ) (w : Walk) (v : Visit) where
-  abbrev Told : After → Type 0
-  Told a = met_by w v (entered_by a) ≡ a
-
-  told_pass : Told (passing_leaf s count w v)
-  unfolding passing_leaf
-  told_pass = go (leb (v.number + numbers_of v) count)
-    where
-      go : (b : Bool) → Told (cond b (walked (met.Node v) (walk_at (w.row + 1) (v.number + numbers_of v) w.top), put_next s w.top (v.parent.next + 1)) (ill s w))
-      go true = refl
-      go false = refl
-
-  told_push : Told (pushing s w v)
-  unfolding pushing
-  told_push = go (may_open v && not (eqb w.top 0))
-    where
-      go : (b : Bool) → Told (cond b (walked (met.Node v) (walk_at (w.row + 1) v.number (w.top - 1)), put_frame (put_next s w.top (v.parent.next + 1)) (w.top - 1) (frame_of v)) (ill s w))
-      go true = refl
-      go false = refl
-
-  told : Told (meeting s count w v)
-  unfolding meeting
-  told = go (is_allowed v) (is_leaf v)
-    where
-      go : (a b : Bool) → Told (cond a (cond b (passing_leaf s count w v) (pushing s w v)) (ill s w))
-      go true true = told_pass
-      go true false = told_push
-      go false b = refl
-
-module _ (nodes : List ℕ) (count : ℕ) (s : List ℕ) (w : Walk) (f : Frame) (e : coming_next s w ≡ Child f) where
+module _ (nodes : List ℕ) (count : ℕ) (s : List Frame) (long : length s ≡ frames) (w : Walk) (f : Frame) (e : coming_next s w ≡ Child f) where
   pub no_row : node_room nodes ≤ w.row → ill s w ≡ walk_step nodes count s w
   unfolding walk_step
   no_row h = rw (e, le-ltb w.row (node_room nodes) h)
 
   -- the next row is given
-  module _ (v : Visit) (i : v ≡ visit_of w.row w.number f (row_at nodes w.row)) (here : w.row < node_room nodes) (counted : w.row + 1 < 2 ^ 64) (x : Option Walk) (s' : List ℕ)
+  module _ (v : Visit) (i : v ≡ visit_of w.row w.number f (row_at nodes w.row)) (here : w.row < node_room nodes) (counted : w.row + 1 < 2 ^ 64) (x : Option Walk) (s' : List Frame)
       (q : (x, s') ≡ entering s count w (row v.kind v.dimension v.parts)) where
     given : met_by w v (x, s') ≡ walk_step nodes count s w
     unfolding walk_step
     given =
         let o = wanted_of s w f e in
         let b : wanted_from s w.top ≡ Some w.top = wants_here s w.top f o.2 o.0 o.1 in
-        let m : (x, s') ≡ entered_by (meeting s count w v) = q ∙ rw i (enters s w (row_at nodes w.row) w.top b counted f o.2 count) in
-        ap (met_by w v) m ∙ told s count w v ∙ rw (e, lt-ltb w.row (node_room nodes) here, i)
+        let m : (x, s') ≡ meeting s count w v = q ∙ rw i (sym (enters s long w (row_at nodes w.row) w.top b counted f o.2 count)) in
+        ap (met_by w v) m ∙ rw (e, lt-ltb w.row (node_room nodes) here, i)
 
     pub row_to : (w' : Walk) → x ≡ Some w' → (walked (met.Node v) w', s') ≡ walk_step nodes count s w
     row_to w' z = rw z at given

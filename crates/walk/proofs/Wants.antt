@@ -6,19 +6,20 @@ use mathlib.Core.List.{List, [], ◌∷◌}
 use Prim.Native.Nat.{ℕ, zero, suc, ◌+◌, ◌-◌, ◌≤◌, ◌<◌}
 use native.Mathlib.Omega.{arith}
 use lib.Dec.{eqb}
+use lib.ListN.{length, drop}
 use borrow.Author.Tests.{eq-eqb, ne_eqb, le-leb, lt-leb, eqb-true}
 use Rattle.nodes.specs.declared.Frame.{Frame}
 use Rattle.nodes.specs.Nodes.{no_kind, is_spent, still_open}
 use Rattle.std.specs.Prelude.{Option, Some, None}
 use Rattle.walk.specs.Walk.{frames, frame_at, wanted_in, wanted_from}
-use Rattle.walk.proofs.Stack.{firsts_cut, firsts_past, open_from}
+use Rattle.walk.proofs.Stack.{open_cut, open_past}
 use Rattle.walk.proofs.Nested.{Nested, nested_outer, outermost}
 
 -- ---- a frame at a time
-module _ (s : List ℕ) (t : ℕ) where
-  pub no_frame : frames ≤ t → wanted_from s t ≡ None
+module _ (s : List Frame) (t : ℕ) where
+  pub no_frame_left : frames ≤ t → wanted_from s t ≡ None
   unfolding wanted_in
-  no_frame h = let z : frames - t ≡ 0 = omega arith in rw z
+  no_frame_left h = let z : frames - t ≡ 0 = omega arith in rw z
 
   module _ (f : Frame) (is : f ≡ frame_at s t) (h : t < frames) where
     some : frames - t ≡ suc (frames - (t + 1))
@@ -38,30 +39,30 @@ module _ (s : List ℕ) (t : ℕ) where
       node_spent k = rw (some, ← is, le-leb f.parts f.next spent, ne_eqb f.kind no_kind k)
 
 -- ---- the node that wants a child: those inside it have ended
-pub record WantsBelow (s : List ℕ) (t u : ℕ) : Type 0 where
+pub record WantsBelow (s : List Frame) (t u : ℕ) : Type 0 where
   pub inside : u < frames
   pub unspent : is_spent (frame_at s u) ≡ false
-  pub nested : Nested (open_from s t) → Nested (open_from s u)
-  pub open_still : still_open (open_from s t) ≡ still_open (open_from s u)
+  pub nested : Nested (drop t s) → Nested (drop u s)
+  pub open_still : still_open (drop t s) ≡ still_open (drop u s)
 
 -- where none does, all have ended
-abbrev pub Wants : List ℕ → ℕ → Option ℕ → Type 0
+abbrev pub Wants : List Frame → ℕ → Option ℕ → Type 0
 Wants s t (Some u) = WantsBelow s t u
-Wants s t None = Nested (open_from s t) → still_open (open_from s t) ≡ []
+Wants s t None = Nested (drop t s) → still_open (drop t s) ≡ []
 
-module _ (s : List ℕ) where
+module _ (s : List Frame) (long : length s ≡ frames) where
   wants_in : (n t : ℕ) → n ≡ frames - t → Wants s t (wanted_in s n t)
   unfolding wanted_in still_open
-  wants_in zero t e = λ o. rw (firsts_past (frame_at s) frames t (omega arith))
+  wants_in zero t e = λ o. rw (open_past s long t (omega arith))
   wants_in (suc n) t e = go (is_spent (frame_at s t)) refl (eqb (frame_at s t).kind no_kind) refl (wanted_in s n (t + 1)) (wants_in n (t + 1) (omega arith))
     where
       inside : t < frames
       inside = omega arith
 
-      cut : open_from s t ≡ frame_at s t ∷ open_from s (t + 1)
-      cut = firsts_cut (frame_at s) frames t inside
+      cut : drop t s ≡ frame_at s t ∷ drop (t + 1) s
+      cut = open_cut s long t inside
 
-      ended : is_spent (frame_at s t) ≡ true → still_open (open_from s t) ≡ still_open (open_from s (t + 1))
+      ended : is_spent (frame_at s t) ≡ true → still_open (drop t s) ≡ still_open (drop (t + 1) s)
       ended x = rw (cut, x)
 
       go : (a : Bool) → is_spent (frame_at s t) ≡ a → (b : Bool) → eqb (frame_at s t).kind no_kind ≡ b → (x : Option ℕ) → Wants s (t + 1) x → Wants s t (cond a (cond b None x) (Some t))

@@ -1,20 +1,21 @@
 -- Worked examples of this crate's definitions, by computation: rows that are given one by one.
 use Rattle.std.specs.Prelude as rust
-use Rattle.std.specs.Prelude.{Some, None, ◌≡◌, refl, Bool, true, false, List, [], ◌∷◌, ◌++◌, ℕ, ◌-◌, ◌^◌}
+use Rattle.std.specs.Prelude.{Some, None, replicate, ◌≡◌, refl, Bool, true, false, List, [], ◌∷◌, ◌++◌, ℕ, ◌-◌, ◌^◌}
 use Rattle.std.proofs.Math.Option.{Option, none, some}
 use Rattle.kinds.specs.Kinds.{width}
-use Rattle.store.specs.Rows.{Row, node_over, zeros}
+use Rattle.store.specs.Rows.{Row, node_over}
 use Rattle.lists.specs.Options.{map_o}
-use Rattle.nodes.specs.Nodes.{node_end, node_ends, still_open, at_last, is_allowed, child_kind, numbers_of, meets_node, meets_rows, meets}
+use Rattle.nodes.specs.declared.Frame.{Frame}
+use Rattle.nodes.specs.Nodes.{above, node_end, node_ends, still_open, at_last, is_allowed, child_kind, numbers_of, meets_node, meets_rows, meets}
 use Rattle.nodes.specs.Examples.{leaf, nest, point, empty_point, store}
 use Rattle.walk.specs.declared.Walk.{Walk}
-use Rattle.walk.specs.Walk.{cells, frame_at, put_frame, put_next, walk_at, beginning, passing_leaf, pushing, meeting, wanted_in, wanted_from, entering, has_ended}
+use Rattle.walk.specs.Walk.{frames, put_next, walk_at, beginning, passing_leaf, pushing, meeting, wanted_in, wanted_from, entering, has_ended}
 
 -- a walk and its frames, if no row before was ill
 abbrev Standing : Type 0
-Standing = Option (Walk × List ℕ)
+Standing = Option (Walk × List Frame)
 
-on_to : rust.Option Walk × List ℕ → Standing
+on_to : rust.Option Walk × List Frame → Standing
 on_to (Some w, s) = some (w, s)
 on_to (None, s) = none
 
@@ -24,9 +25,9 @@ give count x [] = x
 give count none (r ∷ rs) = none
 give count (some (w, s)) (r ∷ rs) = give count (on_to (entering s count w r)) rs
 
--- from above the root, with frames that held zeros
-start : Walk × List ℕ
-start = beginning (zeros cells)
+-- from above the root, with any frames
+start : Walk × List Frame
+start = beginning (replicate frames above)
 
 after : ℕ → List Row → Standing
 after count rs = give count (some start) rs
@@ -41,7 +42,7 @@ ended : ℕ → List Row → Option Bool
 ended count rs = map_o (λ x. has_ended x.1 count x.0) (after count rs)
 
 given : ℕ
-unfolding leaf nest point empty_point store width numbers_of child_kind is_allowed node_end node_ends still_open at_last meets_node meets_rows meets on_to give start after stands wants ended frame_at put_frame put_next beginning passing_leaf pushing meeting wanted_in entering has_ended
+unfolding leaf nest point empty_point store width numbers_of child_kind is_allowed node_end node_ends still_open at_last meets_node meets_rows meets on_to give start after stands wants ended put_next beginning passing_leaf pushing meeting wanted_in entering has_ended
 given = 0
 
 -- `GEOMETRYCOLLECTION(POINT(1 2))`: nothing, its first row, both; the collection has the frame below that above the root

@@ -1,10 +1,9 @@
--- The walk as the code takes it, step by step, with its frames as numbers in a lent array: `proofs/Fed`, for rows that are given, and `proofs/Stepped` of `shape`,
+-- The walk as the code takes it, step by step, with its frames in a lent array: `proofs/Fed`, for rows that are given, and `proofs/Stepped` of `shape`,
 -- for those of a slice, show that it meets what `Nodes` says.
-use Rattle.std.specs.Prelude.{Bool, true, false, cond, not, ◌&&◌, Option, Some, None, is_none, List, [], ◌∷◌, ℕ, zero, suc, ◌+◌, ◌-◌, ◌*◌, ◌/◌, ◌%◌, ◌^◌, ◌≤◌, ◌<◌, eqb, leb, ltb, drop, get_or, set}
+use Rattle.std.specs.Prelude.{Bool, cond, not, ◌&&◌, Option, Some, None, is_none, List, ℕ, zero, suc, ◌+◌, ◌-◌, ◌*◌, ◌^◌, ◌≤◌, ◌<◌, eqb, leb, ltb, drop, slice_index_or, slice_set}
 use Rattle.std.proofs.Math.Option as maybe
-use Rattle.std.proofs.lemmas.List.Edits.{sets}
 use Rattle.kinds.specs.Kinds.{kind_line_string, width}
-use Rattle.store.specs.Rows.{Row, node_room, firsts, row_at}
+use Rattle.store.specs.Rows.{Row, node_room, row_at}
 use Rattle.nodes.specs.declared.Frame.{Frame}
 use Rattle.nodes.specs.declared.Visit.{Visit}
 use Rattle.nodes.specs.declared.Met.{Met}
@@ -15,41 +14,25 @@ use Rattle.walk.specs.declared.Walked.{Walked}
 use Rattle.walk.specs.declared.Coming.{Coming}
 use Rattle.walk.specs.declared.Coming.TheVariants as coming
 
--- ---- frames as numbers
--- how many frames there are, and how many numbers each has
+-- ---- frames
+-- how many there are
 abbrev pub frames : ℕ
 frames = 35
 
-abbrev pub frame_width : ℕ
-frame_width = 7
+-- where there is none
+abbrev pub no_frame : Frame
+no_frame = frame 0 no_kind 0 0 0 0
 
-abbrev pub cells : ℕ
-cells = frames * frame_width
-
--- a frame's row takes two numbers below this
-abbrev pub half : ℕ
-half = 2 ^ 32
-
-abbrev pub next_column : ℕ
-next_column = 6
-
--- the number in column c of frame t
-abbrev pub frame_cell : List ℕ → ℕ → ℕ → ℕ
-frame_cell s t c = get_or s (t * frame_width + c) 0
-
--- its row, as its lower and its upper half, then each other field
-unfoldable pub frame_at : List ℕ → ℕ → Frame
-frame_at s t = frame (frame_cell s t 0 + frame_cell s t 1 * half) (frame_cell s t 2) (frame_cell s t 3) (frame_cell s t 4) (frame_cell s t 5) (frame_cell s t next_column)
-
-abbrev pub frame_numbers : Frame → List ℕ
-frame_numbers f = f.row % half ∷ f.row / half ∷ f.kind ∷ f.dimension ∷ f.depth ∷ f.parts ∷ f.next ∷ []
-
-unfoldable pub put_frame : List ℕ → ℕ → Frame → List ℕ
-put_frame s t f = sets s (t * frame_width + 0) (frame_numbers f)
+-- the frame at place t
+abbrev pub frame_at : List Frame → ℕ → Frame
+frame_at s t = slice_index_or s t no_frame
 
 -- the child that comes next in a frame
-unfoldable pub put_next : List ℕ → ℕ → ℕ → List ℕ
-put_next s t n = set s (t * frame_width + next_column) n
+abbrev pub next_in : Frame → ℕ → Frame
+next_in f n = frame f.row f.kind f.dimension f.depth f.parts n
+
+unfoldable pub put_next : List Frame → ℕ → ℕ → List Frame
+put_next s t n = slice_set s t (next_in (frame_at s t) n)
 
 -- ---- a step
 abbrev pub walk_at : ℕ → ℕ → ℕ → Walk
@@ -60,14 +43,14 @@ walked m w = record { met = m; next = w }
 
 -- what a step answers, and the frames after it
 abbrev pub After : Type 0
-After = Walked × List ℕ
+After = Walked × List Frame
 
-abbrev pub ill : List ℕ → Walk → After
+abbrev pub ill : List Frame → Walk → After
 ill s w = (walked Ill w, s)
 
 -- above the root
-unfoldable pub beginning : List ℕ → Walk × List ℕ
-beginning s = (walk_at 0 0 (frames - 1), put_frame s (frames - 1) above)
+unfoldable pub beginning : List Frame → Walk × List Frame
+beginning s = (walk_at 0 0 (frames - 1), slice_set s (frames - 1) above)
 
 -- the innermost open node: a child of it is wanted, or it has ended
 unfoldable pub coming_in : Frame → Walk → Coming
@@ -76,58 +59,52 @@ coming_in f w =
     (cond (eqb f.kind no_kind) coming.Last (coming.End f.row (w.row - f.row) (walk_at w.row w.number (w.top + 1))))
     (coming.Child f)
 
-unfoldable pub coming_next : List ℕ → Walk → Coming
+unfoldable pub coming_next : List Frame → Walk → Coming
 coming_next s w = cond (ltb w.top frames) (coming_in (frame_at s w.top) w) coming.Last
 
+-- the walk after a node that is met, or none where it is ill, and the frames
+abbrev pub Taken : Type 0
+Taken = Option Walk × List Frame
+
 -- a node without child rows
-unfoldable pub passing_leaf : List ℕ → ℕ → Walk → Visit → After
+unfoldable pub passing_leaf : List Frame → ℕ → Walk → Visit → Taken
 passing_leaf s count w v =
     cond (leb (v.number + numbers_of v) count)
-    (walked (Node v) (walk_at (w.row + 1) (v.number + numbers_of v) w.top), put_next s w.top (v.parent.next + 1))
-    (ill s w)
+    (Some (walk_at (w.row + 1) (v.number + numbers_of v) w.top), put_next s w.top (v.parent.next + 1))
+    (None, s)
 
 -- a node whose children follow gets a frame, if there is one
-unfoldable pub pushing : List ℕ → Walk → Visit → After
+unfoldable pub pushing : List Frame → Walk → Visit → Taken
 pushing s w v =
     cond (may_open v && not (eqb w.top 0))
-    (walked (Node v) (walk_at (w.row + 1) v.number (w.top - 1)), put_frame (put_next s w.top (v.parent.next + 1)) (w.top - 1) (frame_of v))
-    (ill s w)
+    (Some (walk_at (w.row + 1) v.number (w.top - 1)), slice_set (put_next s w.top (v.parent.next + 1)) (w.top - 1) (frame_of v))
+    (None, s)
 
-unfoldable pub meeting : List ℕ → ℕ → Walk → Visit → After
-meeting s count w v = cond (is_allowed v) (cond (is_leaf v) (passing_leaf s count w v) (pushing s w v)) (ill s w)
+unfoldable pub meeting : List Frame → ℕ → Walk → Visit → Taken
+meeting s count w v = cond (is_allowed v) (cond (is_leaf v) (passing_leaf s count w v) (pushing s w v)) (None, s)
 
 -- ---- rows that are given one by one
 -- the innermost open node that wants a child, among n frames from t on: those before it have ended
-unfoldable pub wanted_in : List ℕ → ℕ → ℕ → Option ℕ
+unfoldable pub wanted_in : List Frame → ℕ → ℕ → Option ℕ
 wanted_in s zero t = None
 wanted_in s (suc n) t = cond (is_spent (frame_at s t)) (cond (eqb (frame_at s t).kind no_kind) None (wanted_in s n (t + 1))) (Some t)
 
-abbrev pub wanted_from : List ℕ → ℕ → Option ℕ
+abbrev pub wanted_from : List Frame → ℕ → Option ℕ
 wanted_from s top = wanted_in s (frames - top) top
 
-abbrev pub is_node : Met → Bool
-is_node (Node v) = true
-is_node (End i n) = false
-is_node Done = false
-is_node Ill = false
-
--- a node was met, and the walk goes on; or none was
-abbrev pub entered_by : After → Option Walk × List ℕ
-entered_by (a, s) = (cond (is_node a.met) (Some a.next) None, s)
-
 -- a row is met where one is wanted, if it can be counted
-abbrev pub entering_at : List ℕ → ℕ → Walk → Row → Option ℕ → Option Walk × List ℕ
+abbrev pub entering_at : List Frame → ℕ → Walk → Row → Option ℕ → Taken
 entering_at s count w r None = (None, s)
 entering_at s count w r (Some t) =
     cond (ltb (w.row + 1) (2 ^ 64))
-    (entered_by (meeting s count (walk_at w.row w.number t) (visit_of w.row w.number (frame_at s t) r)))
+    (meeting s count (walk_at w.row w.number t) (visit_of w.row w.number (frame_at s t) r))
     (None, s)
 
-unfoldable pub entering : List ℕ → ℕ → Walk → Row → Option Walk × List ℕ
+unfoldable pub entering : List Frame → ℕ → Walk → Row → Taken
 entering s count w r = entering_at s count w r (wanted_from s w.top)
 
 -- none is wanted after the last, and no number is left
-unfoldable pub has_ended : List ℕ → ℕ → Walk → Bool
+unfoldable pub has_ended : List Frame → ℕ → Walk → Bool
 has_ended s count w = is_none (wanted_from s w.top) && eqb w.number count
 
 -- ---- rows of a slice
@@ -135,21 +112,29 @@ has_ended s count w = is_none (wanted_from s w.top) && eqb w.number count
 unfoldable pub last_met : List ℕ → ℕ → Walk → Met
 last_met nodes count w = cond (leb (node_room nodes) w.row && eqb w.number count) Done Ill
 
+-- a node was met, and the walk goes on; or none was
+abbrev pub met_by : Walk → Visit → Taken → After
+met_by w v (Some w', s) = (walked (Node v) w', s)
+met_by w v (None, s) = ill s w
+
+abbrev pub step_to : List Frame → ℕ → Walk → Visit → After
+step_to s count w v = met_by w v (meeting s count w v)
+
 -- a step over rows that are there
-abbrev pub step_at : List ℕ → ℕ → List ℕ → Walk → Coming → After
-step_at nodes count s w (coming.Child f) = cond (ltb w.row (node_room nodes)) (meeting s count w (visit_of w.row w.number f (row_at nodes w.row))) (ill s w)
+abbrev pub step_at : List ℕ → ℕ → List Frame → Walk → Coming → After
+step_at nodes count s w (coming.Child f) = cond (ltb w.row (node_room nodes)) (step_to s count w (visit_of w.row w.number f (row_at nodes w.row))) (ill s w)
 step_at nodes count s w (coming.End i n w') = (walked (End i n) w', s)
 step_at nodes count s w coming.Last = (walked (last_met nodes count w) w, s)
 
-unfoldable pub walk_step : List ℕ → ℕ → List ℕ → Walk → After
+unfoldable pub walk_step : List ℕ → ℕ → List Frame → Walk → After
 walk_step nodes count s w = step_at nodes count s w (coming_next s w)
 
 -- ---- what a walk has ahead
-abbrev pub open_at : List ℕ → Walk → List Frame
-open_at s w = drop w.top (firsts (frame_at s) frames)
+abbrev pub open_at : List Frame → Walk → List Frame
+open_at s w = drop w.top s
 
 -- what is still to be met of rows that are given
-abbrev pub ahead_by : ℕ → List ℕ → Walk → List Row → maybe.Option (List Met)
+abbrev pub ahead_by : ℕ → List Frame → Walk → List Row → maybe.Option (List Met)
 ahead_by count s w rs = meets count (open_at s w) w.row w.number rs
 
 -- ---- what private functions ask

@@ -1,11 +1,11 @@
 // The walk over node rows that every later entry takes: over those of a slice, or over rows that are given one by one.
 #![tactic(auto)]
 
-ghost use Rattle.std.specs.Prelude.{◌≡◌, true, leb, ◌+◌, ◌-◌, ◌*◌, ◌<◌};
+ghost use Rattle.std.specs.Prelude.{◌≡◌, true, leb, ◌+◌, ◌<◌};
 ghost use Rattle.store.specs.Rows.{row, row_at};
 ghost use Rattle.nodes.specs.Nodes.{visit_of, may_open, frame_of};
 ghost use Rattle.walk.specs.declared.Coming.TheVariants.{Child};
-ghost use Rattle.walk.specs.Walk.{frames, half, HasChild, frame_at, put_frame, put_next, beginning, coming_in, coming_next, passing_leaf, pushing, meeting, wanted_from, entering, has_ended, last_met, walk_step};
+ghost use Rattle.walk.specs.Walk.{frames, HasChild, beginning, coming_in, coming_next, passing_leaf, pushing, meeting, wanted_from, entering, has_ended, last_met, walk_step};
 
 use kinds::KIND_GEOMETRYCOLLECTION;
 use nodes::{Frame, Met, NO_KIND, Visit};
@@ -13,28 +13,15 @@ use nodes::{Frame, Met, NO_KIND, Visit};
 // How many frames a walk needs: the one above the root, the collections, and in the last of them a multipolygon with a polygon.
 pub const FRAMES: usize = 35;
 
-// A frame is kept as numbers in a lent array: its row takes the first two, and then each field has one.
-const FRAME_WIDTH: usize = 7;
-
-const ROW_LOW: usize = 0;
-
-const ROW_HIGH: usize = 1;
-
-const KIND: usize = 2;
-
-const DIMENSION: usize = 3;
-
-const DEPTH: usize = 4;
-
-const PARTS: usize = 5;
-
-const NEXT: usize = 6;
-
-// How many numbers the frames have in all.
-pub const CELLS: usize = 245;
-
-// What a number of the array can hold.
-const HALF: usize = 4294967296;
+// What stands above the root: its one child is the root.
+pub const ABOVE: Frame = Frame {
+    row: 0,
+    kind: NO_KIND,
+    dimension: 0,
+    depth: 0,
+    parts: 1,
+    next: 0,
+};
 
 // Where a walk stands: the next row, the next number, and the open nodes, the innermost in frame `top`, the outermost in the last.
 #[derive(Clone, Copy)]
@@ -79,64 +66,12 @@ fn opened(v: Visit) -> Frame
     }
 }
 
-// A number by its lower and its upper half.
-fn joined(low: u32, high: u32) -> usize
-    ensures { result ≡ low + high * half }
-{
-    (low as usize) + (high as usize) * HALF
-}
-
-fn frame_at(cells: &[u32; CELLS], top: usize) -> Frame
-    requires { top < frames }
-    ensures { result ≡ frame_at cells.now top }
-{
-    let at = top * FRAME_WIDTH;
-    Frame {
-        row: joined(cells[at + ROW_LOW], cells[at + ROW_HIGH]),
-        kind: cells[at + KIND],
-        dimension: cells[at + DIMENSION],
-        depth: cells[at + DEPTH],
-        parts: cells[at + PARTS],
-        next: cells[at + NEXT],
-    }
-}
-
-fn put_frame(cells: &mut [u32; CELLS], top: usize, f: Frame)
-    requires { top < frames }
-    ensures { cells.new ≡ put_frame cells.old top f }
-{
-    let at = top * FRAME_WIDTH;
-    cells[at + ROW_LOW] = (f.row % HALF) as u32;
-    cells[at + ROW_HIGH] = (f.row / HALF) as u32;
-    cells[at + KIND] = f.kind;
-    cells[at + DIMENSION] = f.dimension;
-    cells[at + DEPTH] = f.depth;
-    cells[at + PARTS] = f.parts;
-    cells[at + NEXT] = f.next;
-}
-
-// A child of the node in a frame has been met: the one after it comes next.
-fn put_next(cells: &mut [u32; CELLS], top: usize, next: u32)
-    requires { top < frames }
-    ensures { cells.new ≡ put_next cells.old top next }
-{
-    cells[top * FRAME_WIDTH + NEXT] = next;
-}
-
 // A walk that stands above the root.
-pub fn start(cells: &mut [u32; CELLS]) -> Walk
-    ensures { (result, cells.new) ≡ beginning cells.old }
+pub fn start(frames: &mut [Frame; FRAMES]) -> Walk
+    ensures { (result, frames.new) ≡ beginning frames.old }
 {
-    let above = Frame {
-        row: 0,
-        kind: NO_KIND,
-        dimension: 0,
-        depth: 0,
-        parts: 1,
-        next: 0,
-    };
     let top = FRAMES - 1;
-    put_frame(cells, top, above);
+    frames[top] = ABOVE;
     Walk {
         row: 0,
         number: 0,
@@ -167,12 +102,12 @@ fn coming_in(f: Frame, w: Walk) -> Coming
 }
 
 // What comes next of a walk.
-pub fn next(cells: &[u32; CELLS], w: Walk) -> Coming
-    ensures { result ≡ coming_next cells.now w }
+pub fn next(frames: &[Frame; FRAMES], w: Walk) -> Coming
+    ensures { result ≡ coming_next frames.now w }
 {
     let top = w.top;
     if top < FRAMES {
-        return coming_in(frame_at(cells, top), w);
+        return coming_in(frames[top], w);
     }
     Coming::Last
 }
@@ -188,75 +123,60 @@ fn has_numbers(count: usize, number: usize, need: usize) -> bool
 }
 
 // A node without child rows is met: it takes its numbers.
-fn pass(cells: &mut [u32; CELLS], count: usize, w: Walk, v: Visit) -> Walked
+fn pass(frames: &mut [Frame; FRAMES], count: usize, w: Walk, v: Visit) -> Option<Walk>
     requires { HasChild w v }
-    ensures { (result, cells.new) ≡ passing_leaf cells.old count w v }
+    ensures { (result, frames.new) ≡ passing_leaf frames.old count w v }
 {
     let need = nodes::numbers_of(v);
-    if has_numbers(count, v.number, need) {
-        put_next(cells, w.top, v.parent.next + 1);
-        return Walked {
-            met: Met::Node(v),
-            next: Walk {
-                row: w.row + 1,
-                number: v.number + need,
-                top: w.top,
-            },
-        };
+    if !has_numbers(count, v.number, need) {
+        return None;
     }
-    Walked {
-        met: Met::Ill,
-        next: w,
-    }
+    frames[w.top].next = v.parent.next + 1;
+    Some(Walk {
+        row: w.row + 1,
+        number: v.number + need,
+        top: w.top,
+    })
 }
 
 // A node whose children follow is met: it gets a frame, if there is one.
-fn push(cells: &mut [u32; CELLS], w: Walk, v: Visit) -> Walked
+fn push(frames: &mut [Frame; FRAMES], w: Walk, v: Visit) -> Option<Walk>
     requires { HasChild w v }
-    ensures { (result, cells.new) ≡ pushing cells.old w v }
+    ensures { (result, frames.new) ≡ pushing frames.old w v }
 {
     let top = w.top;
-    if nodes::may_open(v) & (top != 0) {
-        put_next(cells, top, v.parent.next + 1);
-        put_frame(cells, top - 1, opened(v));
-        return Walked {
-            met: Met::Node(v),
-            next: Walk {
-                row: w.row + 1,
-                number: v.number,
-                top: top - 1,
-            },
-        };
+    if !nodes::may_open(v) | (top == 0) {
+        return None;
     }
-    Walked {
-        met: Met::Ill,
-        next: w,
-    }
+    frames[top].next = v.parent.next + 1;
+    frames[top - 1] = opened(v);
+    Some(Walk {
+        row: w.row + 1,
+        number: v.number,
+        top: top - 1,
+    })
 }
 
 // A node is met in its place, if it may stand there.
-fn meet(cells: &mut [u32; CELLS], count: usize, w: Walk, v: Visit) -> Walked
+fn meet(frames: &mut [Frame; FRAMES], count: usize, w: Walk, v: Visit) -> Option<Walk>
     requires { HasChild w v }
-    ensures { (result, cells.new) ≡ meeting cells.old count w v }
+    ensures { (result, frames.new) ≡ meeting frames.old count w v }
 {
-    if nodes::is_allowed(v) {
-        if nodes::is_leaf(v) {
-            return pass(cells, count, w, v);
-        }
-        return push(cells, w, v);
+    if !nodes::is_allowed(v) {
+        return None;
     }
-    Walked {
-        met: Met::Ill,
-        next: w,
+    if nodes::is_leaf(v) {
+        return pass(frames, count, w, v);
     }
+    push(frames, w, v)
 }
 
 // The innermost open node that wants a child, from the frame `top` on: those inside it have ended.
-fn wanting(cells: &[u32; CELLS], top: usize) -> Option<usize>
-    ensures { result ≡ wanted_from cells.now top }
+fn wanting(frames: &[Frame; FRAMES], top: usize) -> Option<usize>
+    ensures { result ≡ wanted_from frames.now top }
 {
     for at in top..FRAMES {
-        let f = frame_at(cells, at);
+        let f = frames[at];
         if f.next < f.parts {
             return Some(at);
         }
@@ -270,16 +190,16 @@ fn wanting(cells: &[u32; CELLS], top: usize) -> Option<usize>
 // Meets a row that is given by what it says, of rows that have `count` numbers: nodes that have ended before it are passed. Whoever has the rows
 // elsewhere than in a slice gives them one by one, and asks `has_ended` after the last. It answers the walk after the row, or none where the row is ill.
 pub fn enter(
-    cells: &mut [u32; CELLS],
+    frames: &mut [Frame; FRAMES],
     count: usize,
     w: Walk,
     kind: u32,
     dimension: u32,
     parts: u32,
 ) -> Option<Walk>
-    ensures { (result, cells.new) ≡ entering cells.old count w (row kind dimension parts) }
+    ensures { (result, frames.new) ≡ entering frames.old count w (row kind dimension parts) }
 {
-    let top = wanting(cells, w.top)?;
+    let top = wanting(frames, w.top)?;
     if w.row == usize::MAX {
         return None;
     }
@@ -289,25 +209,21 @@ pub fn enter(
         kind,
         dimension,
         parts,
-        parent: frame_at(cells, top),
+        parent: frames[top],
     };
     let here = Walk {
         row: w.row,
         number: w.number,
         top,
     };
-    let s = meet(cells, count, here, v);
-    match s.met {
-        Met::Node(_) => Some(s.next),
-        _ => None,
-    }
+    meet(frames, count, here, v)
 }
 
 // Whether all that was opened has ended and no number is left.
-pub fn has_ended(cells: &[u32; CELLS], count: usize, w: Walk) -> bool
-    ensures { result ≡ has_ended cells.now count w }
+pub fn has_ended(frames: &[Frame; FRAMES], count: usize, w: Walk) -> bool
+    ensures { result ≡ has_ended frames.now count w }
 {
-    wanting(cells, w.top).is_none() && w.number == count
+    wanting(frames, w.top).is_none() && w.number == count
 }
 
 // The node of a row below a parent.
@@ -335,13 +251,19 @@ fn last(nodes: &[u32], count: usize, w: Walk) -> Met
 }
 
 // A row that is wanted below `parent` is met.
-fn step_in(nodes: &[u32], count: usize, cells: &mut [u32; CELLS], w: Walk, parent: Frame) -> Walked
-    requires { coming_next cells.old w ≡ Child parent }
-    ensures { (result, cells.new) ≡ walk_step nodes.now count cells.old w }
+fn step_in(
+    nodes: &[u32],
+    count: usize,
+    frames: &mut [Frame; FRAMES],
+    w: Walk,
+    parent: Frame,
+) -> Walked
+    requires { coming_next frames.old w ≡ Child parent }
+    ensures { (result, frames.new) ≡ walk_step nodes.now count frames.old w }
 {
     if w.row < store::node_room(nodes) {
         let v = visit_at(nodes, w, parent);
-        if let Some(next) = enter(cells, count, w, v.kind, v.dimension, v.parts) {
+        if let Some(next) = enter(frames, count, w, v.kind, v.dimension, v.parts) {
             return Walked {
                 met: Met::Node(v),
                 next,
@@ -355,12 +277,12 @@ fn step_in(nodes: &[u32], count: usize, cells: &mut [u32; CELLS], w: Walk, paren
 }
 
 // What is met next of rows that have `count` numbers.
-pub fn step(nodes: &[u32], count: usize, cells: &mut [u32; CELLS], w: Walk) -> Walked
-    ensures { (result, cells.new) ≡ walk_step nodes.now count cells.old w }
+pub fn step(nodes: &[u32], count: usize, frames: &mut [Frame; FRAMES], w: Walk) -> Walked
+    ensures { (result, frames.new) ≡ walk_step nodes.now count frames.old w }
 {
-    let coming = next(cells, w);
+    let coming = next(frames, w);
     match coming {
-        Coming::Child(parent) => step_in(nodes, count, cells, w, parent),
+        Coming::Child(parent) => step_in(nodes, count, frames, w, parent),
         Coming::End(row, rows, after) => Walked {
             met: Met::End(row, rows),
             next: after,

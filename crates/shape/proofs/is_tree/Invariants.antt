@@ -3,4 +3,4 @@ use Rattle.shape.proofs.Loops.{Giving}
 use Rattle.shape.proofs.is_tree.Given as goal
 
 abbrev pub invariant-loop-i : goal.invariant-loop-i
-invariant-loop-i l = Giving l.nodes l.count l.cells l.w l.i
+invariant-loop-i l = Giving l.nodes l.count l.frames l.w l.i

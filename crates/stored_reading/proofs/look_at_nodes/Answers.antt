@@ -3,13 +3,15 @@ use mathlib.Core.Path.{sym, ◌∙◌}
 use Prim.Native.Nat.{ℕ, ◌+◌}
 use native.Mathlib.Omega.{arith}
 use lib.ListN.{length-replicate}
-use Rattle.walk.specs.Walk.{cells}
+use Rattle.nodes.specs.declared.Frame.{Frame}
+use Rattle.nodes.specs.Nodes.{above}
+use Rattle.walk.specs.Walk.{frames}
 use Rattle.stored_reading.proofs.Looks.{nodes_begin, node_room_law, node_faulty, node_passed, node_to, node_ill, nodes_end}
 use Rattle.stored_reading.proofs.look_at_nodes.Goals as goal
 use Rattle.stored_reading.proofs.look_at_nodes.Goals.{then-well+in-Some, then-well+in-None, else-well}
 
 pub loop-i-init : goal.loop-i-init
-loop-i-init c = nodes_begin _ _ _ _ _ _ (length-replicate {A = ℕ} cells 0) c.start-w.ensures
+loop-i-init c = nodes_begin _ _ _ _ _ _ (length-replicate {A = Frame} frames above) c.start-w.ensures
 
 pub returns-then-not-is_sized : goal.returns-then-not-is_sized
 returns-then-not-is_sized c = node_faulty c.loop-i.invariant c.loop-i-test.true (sym c.is_sized.ensures ∙ c.if-not-is_sized.true)
@@ -50,9 +52,9 @@ loop-i-preserved c =
     let few = c.requires.1 in
     let all : (i : ℕ) → _ = λ i. (c.shared_slice_known-1.given i).fits in
     elim c.if-well.branch [
-      | then-well+in-Some w ↦ rw (w.cells-is, w.w-is, w.well-is ∙ w.if-well.true) (node_to inv test e w.if-well.true narrow few all w.count_in.ensures w.enter-entered.ensures w.in-Some.is)
-      | then-well+in-None w ↦ rw (w.cells-is, w.w-is, w.well-is) (node_ill inv test e w.if-well.true narrow few all w.count_in.ensures w.enter-entered.ensures w.in-None.is _)
-      | else-well w ↦ rw (w.cells-is, w.w-is, w.well-is) (node_passed inv test e w.if-well.false)
+      | then-well+in-Some w ↦ rw (w.frames-is, w.w-is, w.well-is ∙ w.if-well.true) (node_to inv test e w.if-well.true narrow few all w.count_in.ensures w.enter-entered.ensures w.in-Some.is)
+      | then-well+in-None w ↦ rw (w.frames-is, w.w-is, w.well-is) (node_ill inv test e w.if-well.true narrow few all w.count_in.ensures w.enter-entered.ensures w.in-None.is _)
+      | else-well w ↦ rw (w.frames-is, w.w-is, w.well-is) (node_passed inv test e w.if-well.false)
     ]
 
 pub returns : goal.returns

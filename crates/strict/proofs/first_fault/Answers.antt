@@ -1,8 +1,9 @@
 -- `strict::first_fault` meets its contract: the law of a loop over a walk, with the first fault of the things met.
 use mathlib.Core.Path.{refl, ap, sym, ◌∙◌}
-use Prim.Native.Nat.{ℕ}
 use lib.ListN.{length-replicate}
-use Rattle.walk.specs.Walk.{cells}
+use Rattle.nodes.specs.declared.Frame.{Frame}
+use Rattle.nodes.specs.Nodes.{above}
+use Rattle.walk.specs.Walk.{frames}
 use Rattle.shape.specs.Walk.{whole_walk}
 use Rattle.shape.proofs.Loops.{begin, forward, turn, done, ill}
 use Rattle.strict.specs.Strict.{first_fault, of_walk}
@@ -11,7 +12,7 @@ use Rattle.strict.proofs.first_fault.Goals as goal
 
 pub loop-v-init : goal.loop-v-init
 unfolding first_fault
-loop-v-init c = begin _ _ _ (length-replicate {A = ℕ} cells 0) c.start-w.ensures refl
+loop-v-init c = begin _ _ _ (length-replicate {A = Frame} frames above) c.start-w.ensures refl
 
 pub or_fault-found-requires : goal.or_fault-found-requires
 or_fault-found-requires c = rw c.number_room-count.ensures at (forward c.loop-v.invariant c.step-s.ensures c.in-Node.is tt).numbers

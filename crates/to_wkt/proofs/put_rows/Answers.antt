@@ -1,8 +1,9 @@
 -- `to_wkt::put_rows` meets its contract: the law of a loop over a walk, with the text of the things met.
 use mathlib.Core.Path.{refl, ap, sym, ◌∙◌}
-use Prim.Native.Nat.{ℕ}
 use lib.ListN.{length-replicate}
-use Rattle.walk.specs.Walk.{cells}
+use Rattle.nodes.specs.declared.Frame.{Frame}
+use Rattle.nodes.specs.Nodes.{above}
+use Rattle.walk.specs.Walk.{frames}
 use Rattle.shape.specs.Walk.{whole_walk}
 use Rattle.shape.proofs.Loops.{begin, forward, turn, done, ill}
 use Rattle.pen.proofs.Puts.{emits}
@@ -11,7 +12,7 @@ use Rattle.to_wkt.proofs.PutByWalk.{owed_none, owed_on, put_done, put_ill}
 use Rattle.to_wkt.proofs.put_rows.Goals as goal
 
 pub loop-v-init : goal.loop-v-init
-loop-v-init c = (refl, begin _ _ _ (length-replicate {A = ℕ} cells 0) c.start-w.ensures (owed_none _ _ _))
+loop-v-init c = (refl, begin _ _ _ (length-replicate {A = Frame} frames above) c.start-w.ensures (owed_none _ _ _))
 
 pub put_node-pen-requires : goal.put_node-pen-requires
 put_node-pen-requires c = rw c.number_room-count.ensures at (forward c.loop-v.invariant.1 c.step-s.ensures c.in-Node.is tt).numbers

@@ -5,7 +5,7 @@ use Rattle.walk.proofs.next.Goals as goal
 
 pub returns-then-top-lt-FRAMES : goal.returns-then-top-lt-FRAMES
 unfolding coming_next
-returns-then-top-lt-FRAMES c = rw (lt-ltb _ _ c.if-top-lt-FRAMES.true, ← c.frame_at.ensures) c.coming_in.ensures
+returns-then-top-lt-FRAMES c = rw (lt-ltb _ _ c.if-top-lt-FRAMES.true) c.coming_in.ensures
 
 pub returns : goal.returns
 unfolding coming_next

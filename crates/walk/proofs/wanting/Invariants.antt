@@ -4,4 +4,4 @@ use Rattle.walk.specs.Walk.{wanted_from}
 use Rattle.walk.proofs.wanting.Given as goal
 
 abbrev pub invariant-loop-at : goal.invariant-loop-at
-invariant-loop-at l = wanted_from l.cells l.top ≡ wanted_from l.cells l.at
+invariant-loop-at l = wanted_from l.frames l.top ≡ wanted_from l.frames l.at
