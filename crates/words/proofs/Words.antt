@@ -1,28 +1,22 @@
--- Laws of `upper`, `same_word` and `starts_word`: at a place of both words, by their lengths, joined, and that it is sameness of the raised words.
+-- Laws of `upper`, `same_word` and `starts_word`: by their lengths and pair by pair, at a place of both words, joined, and that it is sameness of the raised words.
 -- Assumes nothing.
 use mathlib.Core.Path.{◌≡◌, refl, sym, ap, ◌∙◌}
-use mathlib.Core.Bool.{Bool, true, false, cond, ◌&&◌, and_assoc, and-false, ◌||◌, and-eq-true_iff, false≢true, or-true}
+use mathlib.Core.Bool.{Bool, true, false, ◌&&◌, and_assoc, and-false, ◌||◌, and-eq-true_iff, false≢true, or-true}
 use mathlib.Core.List.{List, [], ◌∷◌, ◌++◌, map, head-eq_of_cons-eq, tail-eq_of_cons-eq, nil≢cons, cons≢nil}
-use Prim.Native.Nat.{ℕ, suc, ◌+◌, ◌-◌, ◌≤◌, ◌<◌, suc-le-suc}
+use Prim.Native.Nat.{ℕ, suc, ◌+◌, ◌≤◌, ◌<◌, suc-le-suc}
 use native.Mathlib.Numerals.{add-one}
 use native.Mathlib.Nat.{le_of_suc-le-suc, suc_inj}
 use native.Mathlib.Omega.{arith}
-use lib.Dec.{leb}
-use borrow.Author.Tests.{leb-true, lt-leb, eqb-true, eq-eqb}
+use Rattle.std.proofs.lemmas.Bool.Decides.{nat_tests}
+use borrow.Author.Tests.{eqb-true, eq-eqb}
 use lib.ListN.{length, get_or, take, drop, drop_of_length-le, length-map}
 use lib.Seq.{drop-cons, take_at, drop_at}
-use Rattle.words.specs.Words.{is_lower, upper, same_byte, same_word, starts_word}
+use Rattle.std.specs.List.{list_all, zip}
+use Rattle.words.specs.Words.{upper, same_byte, same_word, starts_word}
 
 -- What is raised stays as it is.
 pub upper_upper : (b : ℕ) → upper (upper b) ≡ upper b
-upper_upper b = go (is_lower b) refl
-  where
-    go : (t : Bool) → is_lower b ≡ t → upper (cond t (b - 32) b) ≡ cond t (b - 32) b
-    go true e =
-        let low : 97 ≤ b = leb-true 97 b ((and-eq-true_iff (leb 97 b) (leb b 122)).0 e).0 in
-        let high : b ≤ 122 = leb-true b 122 ((and-eq-true_iff (leb 97 b) (leb b 122)).0 e).1 in
-        rw (lt-leb 97 (b - 32) (omega arith))
-    go false e = rw e
+upper_upper b = grind (arith, nat_tests)
 
 -- At the place i of both words: the test goes on, fails, or has come to the end of the second.
 module _ (l m : List ℕ) (i : ℕ) where
@@ -41,7 +35,17 @@ starts_nil l = refl
 pub starts_end : (l m : List ℕ) (i : ℕ) → length m ≤ i → true ≡ starts_word (drop i l) (drop i m)
 starts_end l m i k = rw (drop_of_length-le m k) (starts_nil (drop i l))
 
--- By their lengths.
+-- By their lengths, and by their bytes pair by pair: `zip` goes as far as the shorter one.
+abbrev pub pairs_same : List ℕ → List ℕ → Bool
+pairs_same l m = list_all (λ p. same_byte p.0 p.1) (zip l m)
+
+pub starts_pairs : (l m : List ℕ) → length m ≤ length l → pairs_same l m ≡ starts_word l m
+unfolding starts_word
+starts_pairs [] [] h = refl
+starts_pairs (a ∷ l) [] h = refl
+starts_pairs [] (b ∷ m) h = absurd (omega arith)
+starts_pairs (a ∷ l) (b ∷ m) h = rw (starts_pairs l m (le_of_suc-le-suc h))
+
 pub too_short : (l m : List ℕ) → length l < length m → false ≡ starts_word l m
 unfolding starts_word
 too_short l [] h = absurd (omega arith)
