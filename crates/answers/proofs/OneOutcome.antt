@@ -9,6 +9,8 @@ use Rattle.lists.proofs.One.{one}
 use Rattle.tokenizer.specs.declared.Cursor.{Cursor}
 use Rattle.tokenizer.specs.Tokens.{cursor_at, pass_comma}
 use Rattle.store.specs.Rows.{open_row}
+use Rattle.headings.specs.declared.NoHead.{NoHead}
+use Rattle.answers.specs.declared.Unread.TheVariants.{Refused}
 use Rattle.answers.specs.declared.State.{State}
 use Rattle.answers.specs.declared.Spot.{Spot}
 use Rattle.answers.specs.Reading.{Answer, spot, state, state_of, ended_nodes, closed_at, closed_nodes, after_refusal, row_for}
@@ -30,6 +32,9 @@ after_part_one text end = one
 
 pub after_refusal_one : (text : List ℕ) (got : Answer) → One (λ r. r ≡ after_refusal text got)
 after_refusal_one text got = one
+
+pub from_one : (e : NoHead) → One (λ u. u ≡ Refused e.refusal e.next)
+from_one e = one
 
 -- those that are lent the node rows: the answer, and the slice that is left
 module _ (ns : List ℕ) (row parts : ℕ) where

@@ -4,8 +4,10 @@
 ghost use Rattle.std.specs.Prelude.{◌≡◌};
 ghost use Rattle.tokenizer.specs.Tokens.{cursor_at, pass_comma};
 ghost use Rattle.store.specs.Rows.{open_row};
+ghost use Rattle.answers.specs.declared.Unread.TheVariants.{Refused};
 ghost use Rattle.answers.specs.Reading.{spot, state, state_of, ended_nodes, not_closed_at, closed_at, closed_nodes, after_refusal, row_for};
 
+use headings::NoHead;
 use refusals::{NO_NODE_ROW, NOT_CLOSED};
 use sorts::{CLOSE, Taken};
 use token::Refusal;
@@ -33,6 +35,15 @@ pub struct Spot {
 pub enum Unread {
     Refused(Refusal, Cursor),
     Stopped(Refusal, Cursor),
+}
+
+// What has no heading is refused.
+impl From<NoHead> for Unread {
+    ghost from_gives = { λ e u. u ≡ Refused e.refusal e.next };
+
+    fn from(e: NoHead) -> Unread {
+        Unread::Refused(e.refusal, e.next)
+    }
 }
 
 // The same rows used, at another place.

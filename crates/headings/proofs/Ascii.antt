@@ -1,25 +1,12 @@
--- A scan for a byte that is not ASCII.
+-- Whether every byte is ASCII, as the library has it.
 -- Assumes nothing.
-use mathlib.Core.Path.{◌≡◌}
-use mathlib.Core.Bool.{true, false}
-use mathlib.Core.List.{List}
-use Prim.Native.Nat.{ℕ, ◌+◌, ◌≤◌, ◌<◌}
-use native.Mathlib.Numerals.{add-one}
-use lib.ListN.{length, get_or, drop, drop_of_length-le}
-use lib.Seq.{drop-cons}
-use borrow.Author.Tests.{le-leb, lt-leb}
-use Rattle.scan.specs.Bytes.{is_ascii}
+use mathlib.Core.Path.{◌≡◌, refl, ap}
+use mathlib.Core.Bool.{Bool, ◌&&◌}
+use mathlib.Core.List.{List, [], ◌∷◌}
+use Rattle.std.specs.List.{list_all}
 use Rattle.lists.specs.Lists.{every}
 
-module _ (w : List ℕ) (i : ℕ) where
-  pub ascii_on : i < length w → get_or w i 0 ≤ 127 → every is_ascii (drop (i + 1) w) ≡ every is_ascii (drop i w)
-  unfolding every
-  ascii_on h b = rw (add-one, drop-cons w i 0, le-leb (get_or w i 0) 127 b)
-
-  pub ascii_off : i < length w → 127 < get_or w i 0 → false ≡ every is_ascii (drop i w)
-  unfolding every
-  ascii_off h b = rw (drop-cons w i 0, lt-leb (get_or w i 0) 127 b)
-
-  pub ascii_end : length w ≤ i → true ≡ every is_ascii (drop i w)
-  unfolding every
-  ascii_end h = rw drop_of_length-le
+pub all_every : {A : Type 0} (p : A → Bool) (l : List A) → list_all p l ≡ every p l
+unfolding every
+all_every p [] = refl
+all_every p (a ∷ l) = ap (λ b. p a && b) (all_every p l)

@@ -1,6 +1,6 @@
 -- What stands after a name, return by return.
 -- Assumes nothing.
-use Rattle.std.specs.Prelude.{Option, Some, None}
+use Rattle.std.specs.Prelude.{Option, Some, None, Ok, Err}
 use mathlib.Core.Path.{◌≡◌, refl, sym, ap, ◌∙◌}
 use mathlib.Core.Bool.{Bool, true, false, cond}
 use mathlib.Core.List.{List}
@@ -29,9 +29,8 @@ use Rattle.grammar.specs.Grammar.{opens, empty, wrong, refusal, is_empty_tok, op
 use Rattle.sorts.specs.declared.Taken.{Taken}
 use Rattle.sorts.specs.Taken.{taken_at, refusal_by}
 use Rattle.sorts.proofs.Tokens.{Tells, taken_tells, taken_next, opens_place, opens_sort, other_sort}
-use Rattle.headings.specs.Heads.{head_of, head_end, ran_at, run_at, MetHead, is_empty_in, empty_at}
-use Rattle.headings.specs.declared.Head.{Head}
-use Rattle.headings.specs.declared.Head.TheVariants.{Opens, Empty, Wrong}
+use Rattle.headings.specs.Heads.{no_head, Heading, head_of, head_end, ran_at, run_at, MetHead, is_empty_in, empty_at}
+use Rattle.headings.specs.declared.Head.TheVariants.{Opens, Empty}
 use Rattle.headings.proofs.Runs.{runs_ret, runs_ask, runs_look}
 
 -- what is looked at is what is taken then
@@ -60,7 +59,7 @@ next text c = tok_in text (take_at text c).found
 
 -- EMPTY, or neither
 module _ (text : List ℕ) (k d : ℕ) (t : Taken) where
-  pub empty_no : {r : Refusal} {n : Cursor} → (t.sort ≡ sort_word → ⊥) → r ≡ refusal_by text not_opened t → n ≡ cursor_at t.at → Wrong r n ≡ empty_at text k d t
+  pub empty_no : {r : Refusal} {n : Cursor} → (t.sort ≡ sort_word → ⊥) → r ≡ refusal_by text not_opened t → n ≡ cursor_at t.at → Err (no_head r n) ≡ empty_at text k d t
   unfolding empty_at
   empty_no h q e = rw (ne_eqb t.sort sort_word h, q, e)
 
@@ -68,21 +67,21 @@ module _ (text : List ℕ) (k d : ℕ) (t : Taken) where
     spelt_out : b ≡ is_empty_word (take t.len (drop t.start text))
     spelt_out = let l : t.start + t.len - t.start ≡ t.len = omega arith in rw l at w
 
-    pub empty_yes : b ≡ true → Empty k d t.place t.at ≡ empty_at text k d t
+    pub empty_yes : b ≡ true → Ok (Empty k d t.place t.at) ≡ empty_at text k d t
     unfolding empty_at
     empty_yes y = rw (eq-eqb t.sort sort_word h, ← spelt_out, y)
 
-    pub empty_word_law : {n : Cursor} → b ≡ false → n ≡ cursor_at t.at → Wrong (refusal not_opened t.place) n ≡ empty_at text k d t
+    pub empty_word_law : {n : Cursor} → b ≡ false → n ≡ cursor_at t.at → Err (no_head (refusal not_opened t.place) n) ≡ empty_at text k d t
     unfolding empty_at
     empty_word_law y e = rw (eq-eqb t.sort sort_word h, ← spelt_out, y, h, e)
 
-  means : (b : Bool) → ran_at (cond b (empty k d t.place) (wrong (refusal_by text not_opened t))) (cursor_at t.at) ≡ ran_at (head_of (cond b (Empty k d t.place t.at) (Wrong (refusal_by text not_opened t) (cursor_at t.at)))) (head_end (cond b (Empty k d t.place t.at) (Wrong (refusal_by text not_opened t) (cursor_at t.at))))
+  means : (b : Bool) → ran_at (cond b (empty k d t.place) (wrong (refusal_by text not_opened t))) (cursor_at t.at) ≡ ran_at (head_of (cond b (Ok (Empty k d t.place t.at)) (Err (no_head (refusal_by text not_opened t) (cursor_at t.at))))) (head_end (cond b (Ok (Empty k d t.place t.at)) (Err (no_head (refusal_by text not_opened t) (cursor_at t.at)))))
   means true = refl
   means false = refl
 
 module _ {text : List ℕ} {c : Cursor} (k d : ℕ) where
   -- `(` was passed over
-  pub open_yes : {r : PassedOpen} → r ≡ pass_open text c → r.opens ≡ true → MetHead text (opener k d) c (Opens k d r.place r.next.at)
+  pub open_yes : {r : PassedOpen} → r ≡ pass_open text c → r.opens ≡ true → MetHead text (opener k d) c (Ok (Opens k d r.place r.next.at))
   unfolding opener opening
   open_yes {r} e y =
       let s : sort_of (next text c) ≡ sort_open = rw (take_head text c) at (opens_sort text c e y) in
@@ -104,7 +103,7 @@ module _ {text : List ℕ} {c : Cursor} (k d : ℕ) where
 
 -- what follows a bare name
 module _ {text : List ℕ} {c : Cursor} (k : ℕ) {r : PassedOpen} (e : r ≡ pass_open text c) where
-  pub header_open : r.opens ≡ true → MetHead text (header k) c (Opens k dim_xy r.place r.next.at)
+  pub header_open : r.opens ≡ true → MetHead text (header k) c (Ok (Opens k dim_xy r.place r.next.at))
   unfolding header
   header_open y =
       let s : sort_of (next text c) ≡ sort_open = rw (take_head text c) at (opens_sort text c e y) in
@@ -139,46 +138,46 @@ module _ (text : List ℕ) (c : Cursor) {r : PassedOpen} (e : r ≡ pass_open te
       ∙ sym (runs_ask text p (look_at text c).next)
       ∙ ap (run_at text (ask p)) (sym here)
 
-  held_empty : (k d : ℕ) {h : Head} → h ≡ empty_at text k d t → MetHead text (opener k d) r.next h
+  held_empty : (k d : ℕ) {h : Heading} → h ≡ empty_at text k d t → MetHead text (opener k d) r.next h
   held_empty k d q = rw (q, u) (open_no k d (rw u at held_other))
 
 module _ {text : List ℕ} {c : Cursor} (k : ℕ) {r : PassedOpen} (e : r ≡ pass_open text c) (n : r.opens ≡ false) {t : Taken} (u : t ≡ taken_at text r.next) where
-  pub header_none : t.sort < sort_open → MetHead text (header k) c (Wrong (refusal no_header t.place) r.next)
+  pub header_none : t.sort < sort_open → MetHead text (header k) c (Err (no_head (refusal no_header t.place) r.next))
   unfolding header
   header_none j =
       let x = held_tells text c e n u in
       record { is = looks text c e n u _ ∙ rw (← x.sort, lt-ltb t.sort sort_open j, ← x.place) (runs_ret text _ _) }
 
   module _ (j : sort_open ≤ t.sort) where
-    pub header_other : {h : Head} → (t.sort ≡ sort_word → ⊥) → h ≡ empty_at text k dim_xy t → MetHead text (header k) c h
+    pub header_other : {h : Heading} → (t.sort ≡ sort_word → ⊥) → h ≡ empty_at text k dim_xy t → MetHead text (header k) c h
     unfolding header
     header_other i q =
         let x = held_tells text c e n u in
         record { is = looks text c e n u _ ∙ rw (← x.sort, le-ltb t.sort sort_open j, ne_eqb t.sort sort_word i) (held_empty text c e n u k dim_xy q).is }
 
     module _ (i : t.sort ≡ sort_word) where
-      pub header_dimension : {d : ℕ} {h : Head} → ending (text_of (next text c)) ≡ Some d → MetHead text (opener k d) (cursor_at t.at) h → MetHead text (header k) c h
+      pub header_dimension : {d : ℕ} {h : Heading} → ending (text_of (next text c)) ≡ Some d → MetHead text (opener k d) (cursor_at t.at) h → MetHead text (header k) c h
       unfolding header
       header_dimension q m =
           let x = held_tells text c e n u in
           record { is = looks text c e n u _ ∙ rw (← x.sort, le-ltb t.sort sort_open j, eq-eqb t.sort sort_word i, q) (takes text c e n u _ ∙ m.is) }
 
       module _ (q : ending (text_of (next text c)) ≡ None) where
-        pub header_empty : is_empty_word (text_of (next text c)) ≡ true → MetHead text (header k) c (Empty k dim_xy t.place t.at)
+        pub header_empty : is_empty_word (text_of (next text c)) ≡ true → MetHead text (header k) c (Ok (Empty k dim_xy t.place t.at))
         unfolding header empty_at
         header_empty w =
             let x = held_tells text c e n u in
-            let z : Empty k dim_xy t.place t.at ≡ empty_at text k dim_xy t = rw (eq-eqb t.sort sort_word i, x.spelt, w) in
+            let z : Ok (Empty k dim_xy t.place t.at) ≡ empty_at text k dim_xy t = rw (eq-eqb t.sort sort_word i, x.spelt, w) in
             record { is = looks text c e n u _ ∙ rw (← x.sort, le-ltb t.sort sort_open j, eq-eqb t.sort sort_word i, q, w) (held_empty text c e n u k dim_xy z).is }
 
-        pub header_word : is_empty_word (text_of (next text c)) ≡ false → MetHead text (header k) c (Wrong (refusal unknown_header t.place) r.next)
+        pub header_word : is_empty_word (text_of (next text c)) ≡ false → MetHead text (header k) c (Err (no_head (refusal unknown_header t.place) r.next))
         unfolding header
         header_word w =
             let x = held_tells text c e n u in
             record { is = looks text c e n u _ ∙ rw (← x.sort, le-ltb t.sort sort_open j, eq-eqb t.sort sort_word i, q, w, ← x.place) (runs_ret text _ _) }
 
 -- in the place of `(`
-pub open_other : {text : List ℕ} {c : Cursor} (k d : ℕ) {r : PassedOpen} → r ≡ pass_open text c → r.opens ≡ false → {t : Taken} → t ≡ taken_at text r.next → {h : Head} → h ≡ empty_at text k d t → MetHead text (opener k d) c h
+pub open_other : {text : List ℕ} {c : Cursor} (k d : ℕ) {r : PassedOpen} → r ≡ pass_open text c → r.opens ≡ false → {t : Taken} → t ≡ taken_at text r.next → {h : Heading} → h ≡ empty_at text k d t → MetHead text (opener k d) c h
 unfolding opener
 open_other {text} {c} k d e n u q = record { is = again text c e n u _ ∙ (held_empty text c e n u k d q).is }
 
@@ -191,23 +190,23 @@ module _ (text : List ℕ) (c : Cursor) {t : Taken} (u : t ≡ taken_at text c) 
   asks p = runs_ask text p c ∙ rw u (ap (run_at text (p (next text c))) (taken_next text c))
 
 module _ {text : List ℕ} {c : Cursor} {t : Taken} (u : t ≡ taken_at text c) where
-  pub child_word : {n : Option Name} {h : Head} → t.sort ≡ sort_word → n ≡ meaning (text_of (next text c)) → MetHead text (by_name t.place n) (cursor_at t.at) h → MetHead text child_head c h
+  pub child_word : {n : Option Name} {h : Heading} → t.sort ≡ sort_word → n ≡ meaning (text_of (next text c)) → MetHead text (by_name t.place n) (cursor_at t.at) h → MetHead text child_head c h
   unfolding child_head
   child_word i q m = record { is = asks text c u _ ∙ rw (← (told text c u).sort, eq-eqb t.sort sort_word i, ← (told text c u).place, ← q) m.is }
 
-  pub child_no : {r : Refusal} {n : Cursor} → (t.sort ≡ sort_word → ⊥) → r ≡ refusal_by text no_child t → n ≡ cursor_at t.at → MetHead text child_head c (Wrong r n)
+  pub child_no : {r : Refusal} {n : Cursor} → (t.sort ≡ sort_word → ⊥) → r ≡ refusal_by text no_child t → n ≡ cursor_at t.at → MetHead text child_head c (Err (no_head r n))
   unfolding child_head
   child_no i q f = record { is = asks text c u _ ∙ rw (← (told text c u).sort, ne_eqb t.sort sort_word i, (told text c u).refuses no_child, q, f) (runs_ret text _ _) }
 
-  pub root_no : {r : Refusal} {n : Cursor} → (t.sort ≡ sort_word → ⊥) → r ≡ refusal_by text no_root t → n ≡ cursor_at t.at → MetHead text root_head c (Wrong r n)
+  pub root_no : {r : Refusal} {n : Cursor} → (t.sort ≡ sort_word → ⊥) → r ≡ refusal_by text no_root t → n ≡ cursor_at t.at → MetHead text root_head c (Err (no_head r n))
   unfolding root_head
   root_no i q f = record { is = asks text c u _ ∙ rw (← (told text c u).sort, ne_eqb t.sort sort_word i, (told text c u).refuses no_root, q, f) (runs_ret text _ _) }
 
   module _ (i : t.sort ≡ sort_word) where
-    pub root_word : {n : Option Name} {h : Head} → every is_ascii (text_of (next text c)) ≡ true → n ≡ meaning (text_of (next text c)) → MetHead text (by_name t.place n) (cursor_at t.at) h → MetHead text root_head c h
+    pub root_word : {n : Option Name} {h : Heading} → every is_ascii (text_of (next text c)) ≡ true → n ≡ meaning (text_of (next text c)) → MetHead text (by_name t.place n) (cursor_at t.at) h → MetHead text root_head c h
     unfolding root_head
     root_word a q m = record { is = asks text c u _ ∙ rw (← (told text c u).sort, eq-eqb t.sort sort_word i, a, ← (told text c u).place, ← q) m.is }
 
-    pub root_wide : {n : Cursor} → every is_ascii (text_of (next text c)) ≡ false → n ≡ cursor_at t.at → MetHead text root_head c (Wrong (refusal non_ascii_root t.place) n)
+    pub root_wide : {n : Cursor} → every is_ascii (text_of (next text c)) ≡ false → n ≡ cursor_at t.at → MetHead text root_head c (Err (no_head (refusal non_ascii_root t.place) n))
     unfolding root_head
     root_wide a f = record { is = asks text c u _ ∙ rw (← (told text c u).sort, eq-eqb t.sort sort_word i, a, ← (told text c u).place, f) (runs_ret text _ _) }

@@ -10,8 +10,7 @@ use Rattle.token_stream.proofs.Stream.{take_head, take_tail, look_same}
 use Rattle.grammar.specs.Asks.{P, ret, ask, look, Ran, ran, run}
 use Rattle.grammar.specs.Grammar as spec
 use Rattle.grammar_laws.proofs.Asks.{run_ret, run_ask, run_look}
-use Rattle.headings.specs.declared.Head.{Head}
-use Rattle.headings.specs.Heads.{head_of, head_end, RanAt, ran_at, run_at, MetHead}
+use Rattle.headings.specs.Heads.{Heading, head_of, head_end, RanAt, ran_at, run_at, MetHead}
 
 -- an answer, and the tokens that are left
 abbrev ran_in : {A : Type 0} → List ℕ → RanAt A → Ran A
@@ -43,5 +42,5 @@ module _ (text : List ℕ) where
   run_at_law p c e = run_by p c ∙ ap (ran_in text) e
 
 -- a heading that was read is the one that the grammar reads
-pub met_head : {text : List ℕ} {p : P spec.Head} {c : Cursor} {r : Head} → MetHead text p c r → run p (stream text c) ≡ ran (head_of r) (stream text (head_end r))
+pub met_head : {text : List ℕ} {p : P spec.Head} {c : Cursor} {r : Heading} → MetHead text p c r → run p (stream text c) ≡ ran (head_of r) (stream text (head_end r))
 met_head {text} {p} {c} x = run_at_law text p c x.is

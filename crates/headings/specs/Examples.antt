@@ -1,5 +1,5 @@
 -- Worked examples of this crate's definitions, by computation.
-use Rattle.std.specs.Prelude.{◌≡◌, refl, ℕ}
+use Rattle.std.specs.Prelude.{◌≡◌, refl, Ok, Err, ℕ}
 use mathlib.Core.List.{List, ◌∷◌, flat_map}
 use Rattle.lists.specs.Lists.{every}
 use Rattle.kinds.specs.Kinds.{kind_point, dim_xy, dim_xyz}
@@ -18,9 +18,8 @@ use Rattle.grammar.specs.Tokens.{sort_none, sort_bad, sort_open, sort_close, sor
 use Rattle.grammar.specs.Grammar as spec
 use Rattle.grammar.specs.Grammar.{opens, empty, wrong, refusal, opening, opener, header, child_head, root_head}
 use Rattle.sorts.specs.Taken.{taken}
-use Rattle.headings.specs.declared.Head.{Head}
-use Rattle.headings.specs.declared.Head.TheVariants.{Opens, Empty, Wrong}
-use Rattle.headings.specs.Heads.{head_of, head_end, RanAt, ran_at, run_at, empty_at}
+use Rattle.headings.specs.declared.Head.TheVariants.{Opens, Empty}
+use Rattle.headings.specs.Heads.{no_head, Heading, head_of, head_end, RanAt, ran_at, run_at, empty_at}
 
 all : ℕ
 unfolding all_bad run first_not after_one_at number_at word_at start_at token_at read_at take_held is_named is_digits is_exponent is_decimal is_unsigned is_lexeme begins after_one after_all is_nil same_word every flat_map spellings lookup meaning ending opening opener header child_head root_head run_at empty_at
@@ -53,22 +52,22 @@ unfolding all root child
 unnamed = (refl, refl, refl, refl, refl, refl)
 
 -- what a heading means: its kind, dimension and place, or its refusal
-means : (head_of (Opens 1 2 3 4) ≡ opens 1 2 3) × (head_of (Empty 1 2 3 4) ≡ empty 1 2 3) × (head_of (Wrong (refusal 12 3) (cursor_at 4)) ≡ wrong (refusal 12 3))
+means : (head_of (Ok (Opens 1 2 3 4)) ≡ opens 1 2 3) × (head_of (Ok (Empty 1 2 3 4)) ≡ empty 1 2 3) × (head_of (Err (no_head (refusal 12 3) (cursor_at 4))) ≡ wrong (refusal 12 3))
 means = (refl, refl, refl)
 
 -- and where it ends, with what is held there
-behind : (head_end (Opens 1 2 3 4) ≡ cursor_at 4) × (head_end (Empty 1 2 3 4) ≡ cursor_at 4) × (head_end (Wrong (refusal 11 3) (record { at = 4; held = Held.NoToken 5 })) ≡ record { at = 4; held = Held.NoToken 5 })
+behind : (head_end (Ok (Opens 1 2 3 4)) ≡ cursor_at 4) × (head_end (Ok (Empty 1 2 3 4)) ≡ cursor_at 4) × (head_end (Err (no_head (refusal 11 3) (record { at = 4; held = Held.NoToken 5 }))) ≡ record { at = 4; held = Held.NoToken 5 })
 behind = (refl, refl, refl)
 
 -- a token of each sort at 1, behind it 7, and the text EMPTY of whatever was taken: the word alone is EMPTY, and a bad number its own refusal: where no byte of one stands nothing is left
-instead : ℕ → Head
+instead : ℕ → Heading
 instead sort = empty_at (bytes "x EMPTY") 1 2 (taken sort 1 2 5 7)
 
-sorted : (instead sort_word ≡ Empty 1 2 1 7) × (instead sort_bad ≡ Wrong (refusal 28 1) (cursor_at 7)) × (instead sort_none ≡ Wrong (refusal 12 1) (cursor_at 7)) × (instead sort_open ≡ Wrong (refusal 12 1) (cursor_at 7)) × (instead sort_close ≡ Wrong (refusal 12 1) (cursor_at 7)) × (instead sort_comma ≡ Wrong (refusal 12 1) (cursor_at 7)) × (instead sort_number ≡ Wrong (refusal 12 1) (cursor_at 7))
+sorted : (instead sort_word ≡ Ok (Empty 1 2 1 7)) × (instead sort_bad ≡ Err (no_head (refusal 28 1) (cursor_at 7))) × (instead sort_none ≡ Err (no_head (refusal 12 1) (cursor_at 7))) × (instead sort_open ≡ Err (no_head (refusal 12 1) (cursor_at 7))) × (instead sort_close ≡ Err (no_head (refusal 12 1) (cursor_at 7))) × (instead sort_comma ≡ Err (no_head (refusal 12 1) (cursor_at 7))) × (instead sort_number ≡ Err (no_head (refusal 12 1) (cursor_at 7)))
 unfolding all instead
 sorted = (refl, refl, refl, refl, refl, refl, refl)
 
 -- in the place of `(`: EMPTY, another word, another token
-emptied : (empty_at (bytes "a Empty") 1 2 (taken sort_word 2 2 5 7) ≡ Empty 1 2 2 7) × (empty_at (bytes "a Emptyx") 1 2 (taken sort_word 2 2 6 8) ≡ Wrong (refusal 12 2) (cursor_at 8)) × (empty_at (bytes ")") 1 2 (taken sort_close 0 0 0 1) ≡ Wrong (refusal 12 0) (cursor_at 1))
+emptied : (empty_at (bytes "a Empty") 1 2 (taken sort_word 2 2 5 7) ≡ Ok (Empty 1 2 2 7)) × (empty_at (bytes "a Emptyx") 1 2 (taken sort_word 2 2 6 8) ≡ Err (no_head (refusal 12 2) (cursor_at 8))) × (empty_at (bytes ")") 1 2 (taken sort_close 0 0 0 1) ≡ Err (no_head (refusal 12 0) (cursor_at 1)))
 unfolding all
 emptied = (refl, refl, refl)

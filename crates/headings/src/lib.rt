@@ -3,7 +3,7 @@
 
 ghost use Rattle.std.specs.Prelude.{◌≡◌, cond, eqb, ◌+◌, ◌≤◌, length};
 ghost use Rattle.scan.specs.Bytes.{is_ascii};
-ghost use Rattle.lists.specs.Lists.{every};
+ghost use Rattle.std.specs.List.{list_all};
 ghost use Rattle.refusals.specs.Refusals.{no_root};
 ghost use Rattle.token.specs.Tokens.{bad_at};
 ghost use Rattle.tokenizer.specs.Tokens.{cursor_at};
@@ -20,73 +20,79 @@ use sorts::{BAD, OPEN, Taken, WORD};
 use token::Refusal;
 use tokenizer::Cursor;
 
-// `(` or EMPTY, with the kind, the dimension, its place and the place behind it, where nothing is held; or a refusal.
+// `(` or EMPTY, with the kind, the dimension, its place and the place behind it, where nothing is held.
 #[derive(Clone, Copy)]
 pub enum Head {
     Opens(u32, u32, usize, usize),
     Empty(u32, u32, usize, usize),
-    Wrong(Refusal, Cursor),
+}
+
+// Why no heading was read: the refusal, and the cursor to go on with, which holds what was only looked at.
+#[derive(Clone, Copy)]
+pub struct NoHead {
+    pub refusal: Refusal,
+    pub next: Cursor,
 }
 
 // EMPTY, where `token` was taken and is not `(`.
-fn empty(text: &[u8], kind: u32, dimension: u32, token: Taken) -> Head
+fn empty(text: &[u8], kind: u32, dimension: u32, token: Taken) -> Result<Head, NoHead>
     requires { token.start + token.len ≤ length text.now }
     ensures { result ≡ empty_at text.now kind dimension token }
 {
     if token.sort != WORD {
-        return Head::Wrong(
-            sorts::refusal_at(text, NOT_OPENED, token.sort, token.place),
-            Cursor::new(token.at),
-        );
+        return Err(NoHead {
+            refusal: sorts::refusal_at(text, NOT_OPENED, token.sort, token.place),
+            next: Cursor::new(token.at),
+        });
     }
     let start = token.start;
     let end = start + token.len;
     if names::is_empty_word(&text[start..end]) {
-        Head::Empty(kind, dimension, token.place, token.at)
+        Ok(Head::Empty(kind, dimension, token.place, token.at))
     } else {
-        Head::Wrong(
-            Refusal {
+        Err(NoHead {
+            refusal: Refusal {
                 number: NOT_OPENED,
                 place: token.place,
             },
-            Cursor::new(token.at),
-        )
+            next: Cursor::new(token.at),
+        })
     }
 }
 
 // `(` or EMPTY.
-pub fn opener(text: &[u8], kind: u32, dimension: u32, at: usize) -> Head
+pub fn opener(text: &[u8], kind: u32, dimension: u32, at: usize) -> Result<Head, NoHead>
     ensures { MetHead text.now (opener kind dimension) (cursor_at at) result }
 {
     let cursor = Cursor::new(at);
     let opened = cursor.pass_open(text);
     let here = opened.next;
     if opened.opens {
-        return Head::Opens(kind, dimension, opened.place, here.at);
+        return Ok(Head::Opens(kind, dimension, opened.place, here.at));
     }
     empty(text, kind, dimension, sorts::take(text, here))
 }
 
 // What follows a bare name: a dimension's word is taken, any other token is only looked at.
-fn header(text: &[u8], kind: u32, at: usize) -> Head
+fn header(text: &[u8], kind: u32, at: usize) -> Result<Head, NoHead>
     ensures { MetHead text.now (header kind) (cursor_at at) result }
 {
     let cursor = Cursor::new(at);
     let opened = cursor.pass_open(text);
     let here = opened.next;
     if opened.opens {
-        return Head::Opens(kind, DIM_XY, opened.place, here.at);
+        return Ok(Head::Opens(kind, DIM_XY, opened.place, here.at));
     }
     let token = sorts::take(text, here);
     // Where it is refused, what was looked at stays held.
     if token.sort < OPEN {
-        return Head::Wrong(
-            Refusal {
+        return Err(NoHead {
+            refusal: Refusal {
                 number: NO_HEADER,
                 place: token.place,
             },
-            here,
-        );
+            next: here,
+        });
     }
     if token.sort != WORD {
         return empty(text, kind, DIM_XY, token);
@@ -98,32 +104,32 @@ fn header(text: &[u8], kind: u32, at: usize) -> Head
         Some(dimension) => opener(text, kind, dimension, token.at),
         None => {
             if names::is_empty_word(word) {
-                Head::Empty(kind, DIM_XY, token.place, token.at)
+                Ok(Head::Empty(kind, DIM_XY, token.place, token.at))
             } else {
-                Head::Wrong(
-                    Refusal {
+                Err(NoHead {
+                    refusal: Refusal {
                         number: UNKNOWN_HEADER,
                         place: token.place,
                     },
-                    here,
-                )
+                    next: here,
+                })
             }
         }
     }
 }
 
 // What follows the word at `place` that means `name`, if anything.
-fn by_name(text: &[u8], place: usize, name: Option<Name>, at: usize) -> Head
+fn by_name(text: &[u8], place: usize, name: Option<Name>, at: usize) -> Result<Head, NoHead>
     ensures { MetHead text.now (by_name place name) (cursor_at at) result }
 {
     let Some(name) = name else {
-        return Head::Wrong(
-            Refusal {
+        return Err(NoHead {
+            refusal: Refusal {
                 number: UNKNOWN_NAME,
                 place,
             },
-            Cursor::new(at),
-        );
+            next: Cursor::new(at),
+        });
     };
     match name {
         Name::Bare(kind) => header(text, kind, at),
@@ -132,7 +138,7 @@ fn by_name(text: &[u8], place: usize, name: Option<Name>, at: usize) -> Head
 }
 
 // The name of a collection's child, and what follows it.
-pub fn child_head(text: &[u8], at: usize) -> Head
+pub fn child_head(text: &[u8], at: usize) -> Result<Head, NoHead>
     ensures { MetHead text.now child_head (cursor_at at) result }
 {
     let token = sorts::take_at(text, at);
@@ -142,24 +148,17 @@ pub fn child_head(text: &[u8], at: usize) -> Head
         let name = names::name_of(&text[start..end]);
         return by_name(text, token.place, name, token.at);
     }
-    Head::Wrong(
-        sorts::refusal_at(text, NO_CHILD, token.sort, token.place),
-        Cursor::new(token.at),
-    )
+    Err(NoHead {
+        refusal: sorts::refusal_at(text, NO_CHILD, token.sort, token.place),
+        next: Cursor::new(token.at),
+    })
 }
 
 // Whether every byte of `w` is ASCII.
 fn is_ascii(w: &[u8]) -> bool
-    ensures { result ≡ every is_ascii w.now }
+    ensures { result ≡ list_all is_ascii w.now }
 {
-    let mut i = 0;
-    while i < w.len() {
-        if 127 < w[i] {
-            return false;
-        }
-        i += 1;
-    }
-    true
+    w.iter().all(|b| *b <= 127)
 }
 
 // The refusal of what stands in the root's place and is no word: "a bad number [28 or 29]; no token or any other token 8". It is `sorts::refusal_at` of
@@ -177,15 +176,15 @@ fn no_root(text: &[u8], sort: u32, place: usize) -> Refusal
 }
 
 // The name of the root, and what follows it.
-pub fn root_head(text: &[u8], at: usize) -> Head
+pub fn root_head(text: &[u8], at: usize) -> Result<Head, NoHead>
     ensures { MetHead text.now root_head (cursor_at at) result }
 {
     let token = sorts::take_at(text, at);
     if token.sort != WORD {
-        return Head::Wrong(
-            no_root(text, token.sort, token.place),
-            Cursor::new(token.at),
-        );
+        return Err(NoHead {
+            refusal: no_root(text, token.sort, token.place),
+            next: Cursor::new(token.at),
+        });
     }
     let start = token.start;
     let end = start + token.len;
@@ -193,12 +192,12 @@ pub fn root_head(text: &[u8], at: usize) -> Head
     if is_ascii(word) {
         by_name(text, token.place, names::name_of(word), token.at)
     } else {
-        Head::Wrong(
-            Refusal {
+        Err(NoHead {
+            refusal: Refusal {
                 number: NON_ASCII_ROOT,
                 place: token.place,
             },
-            Cursor::new(token.at),
-        )
+            next: Cursor::new(token.at),
+        })
     }
 }

@@ -31,7 +31,8 @@ use Rattle.grammar.specs.Reading.{enough}
 use Rattle.grammar_laws.proofs.Asks.{run_ret, run_step, run_ask, run_look}
 use Rattle.sorts.proofs.Tokens.{opens_place, opens_sort, opens_rest, other_sort, other_stays}
 use Rattle.headings.specs.declared.Head.{Head}
-use Rattle.headings.specs.declared.Head.TheVariants.{Opens, Empty, Wrong}
+use Rattle.headings.specs.declared.Head.TheVariants.{Opens, Empty}
+use Rattle.headings.specs.declared.NoHead.{NoHead}
 use Rattle.headings.specs.Heads.{MetHead}
 use Rattle.headings.proofs.Runs.{met_head}
 use Rattle.answers.specs.declared.State.{State}
@@ -226,7 +227,7 @@ module _ {text ns ms : List ℕ} {s : Spot} {t : PassedOpen} (e : t ≡ pass_ope
     }
 
 -- a heading, and what f reads behind it
-module _ {text ns ms : List ℕ} {p : P spec.Head} (f : ℕ → ℕ → Out → spec.Head → P Got) {s : Spot} {h : Head} (m : MetHead text p (cursor_at s.at) h) where
+module _ {text ns ms : List ℕ} {p : P spec.Head} (f : ℕ → ℕ → Out → spec.Head → P Got) {s : Spot} {h : Head} (m : MetHead text p (cursor_at s.at) (Ok h)) where
   head_opens : {k d i at : ℕ} {q : Spot} {r : Answer} {ns' ms' : List ℕ} → h ≡ Opens k d i at → q ≡ spot at s.nodes s.numbers → Reads text (λ N M o. f N M o (opens k d i)) q ns ms r ns' ms' → Reads text (λ N M o. bind p (f N M o)) s ns ms r ns' ms'
   head_opens x j c = record {
     met = λ N M g u.
@@ -241,27 +242,28 @@ module _ {text ns ms : List ℕ} {p : P spec.Head} (f : ℕ → ℕ → Out → 
         record { is = run_step _ _ _ (met_head (rw x at m)) ∙ rw (y N M (used_by (rows_in ns) (spans_in text ms) s.nodes s.numbers)) w.is; within = w.within };
   }
 
-  head_wrong : {r : Refusal} {c : Cursor} → ((N M : ℕ) (o : Out) → f N M o (wrong r) ≡ ret (refused r)) → h ≡ Wrong r c → Reads text (λ N M o. bind p (f N M o)) s ns ms (Err (Refused r c)) ns ms
-  head_wrong y x = record {
-    met = λ N M g u. record { is = run_step _ _ _ (met_head (rw x at m)) ∙ rw (y N M (used_by (rows_in ns) (spans_in text ms) s.nodes s.numbers)) (run_ret _ _); within = tt };
-  }
+-- and where there was none
+head_wrong : {text ns ms : List ℕ} {p : P spec.Head} (f : ℕ → ℕ → Out → spec.Head → P Got) {s : Spot} {e : NoHead} → MetHead text p (cursor_at s.at) (Err e) → ((N M : ℕ) (o : Out) (r : Refusal) → f N M o (wrong r) ≡ ret (refused r)) → Reads text (λ N M o. bind p (f N M o)) s ns ms (Err (Refused e.refusal e.next)) ns ms
+head_wrong {text} {ns} {ms} f {s} {e} m y = record {
+  met = λ N M g u. record { is = run_step _ _ _ (met_head m) ∙ rw (y N M (used_by (rows_in ns) (spans_in text ms) s.nodes s.numbers) e.refusal) (run_ret _ _); within = tt };
+}
 
 -- a line string or a polygon without a name
 abbrev in_parens : (ℕ → ℕ → ℕ → ℕ → Out → P Got) → ℕ → ℕ → Out → spec.Head → P Got
 in_parens inside N M o h = parens N M enough (inside N M) o h
 
-module _ {text ns ms : List ℕ} (k d : ℕ) (inside : ℕ → ℕ → ℕ → ℕ → Out → P Got) {s : Spot} {h : Head} (m : MetHead text (opener k d) (cursor_at s.at) h) where
-  pub child_opens : {k' d' i at : ℕ} {q : Spot} {r : Answer} {ns' ms' : List ℕ} → h ≡ Opens k' d' i at → q ≡ spot at s.nodes s.numbers → Reads text (λ N M. inside N M d' i) q ns ms r ns' ms' → Reads text (λ N M o. bind (opener k d) (in_parens inside N M o)) s ns ms r ns' ms'
+module _ {text ns ms : List ℕ} (k d : ℕ) (inside : ℕ → ℕ → ℕ → ℕ → Out → P Got) {s : Spot} where
+  pub child_opens : {h : Head} → MetHead text (opener k d) (cursor_at s.at) (Ok h) → {k' d' i at : ℕ} {q : Spot} {r : Answer} {ns' ms' : List ℕ} → h ≡ Opens k' d' i at → q ≡ spot at s.nodes s.numbers → Reads text (λ N M. inside N M d' i) q ns ms r ns' ms' → Reads text (λ N M o. bind (opener k d) (in_parens inside N M o)) s ns ms r ns' ms'
   unfolding parens
-  child_opens x j c = head_opens (in_parens inside) m x j (record { met = λ N M g u. c.met N M g u })
+  child_opens m x j c = head_opens (in_parens inside) m x j (record { met = λ N M g u. c.met N M g u })
 
-  pub child_empty : {k' d' i at : ℕ} {q : Spot} {r : Answer} {ns' : List ℕ} → Fits text ns ms s → h ≡ Empty k' d' i at → q ≡ spot at s.nodes s.numbers → r ≡ row_for ns i q → ns' ≡ open_row ns q.nodes k' d' → Reads text (λ N M o. bind (opener k d) (in_parens inside N M o)) s ns ms r ns' ms
+  pub child_empty : {h : Head} → MetHead text (opener k d) (cursor_at s.at) (Ok h) → {k' d' i at : ℕ} {q : Spot} {r : Answer} {ns' : List ℕ} → Fits text ns ms s → h ≡ Empty k' d' i at → q ≡ spot at s.nodes s.numbers → r ≡ row_for ns i q → ns' ≡ open_row ns q.nodes k' d' → Reads text (λ N M o. bind (opener k d) (in_parens inside N M o)) s ns ms r ns' ms
   unfolding parens
-  child_empty v x j e l = head_empty (in_parens inside) m (λ N M o. refl) v x j e l
+  child_empty m v x j e l = head_empty (in_parens inside) m (λ N M o. refl) v x j e l
 
-  pub child_wrong : {r : Refusal} {c : Cursor} → h ≡ Wrong r c → Reads text (λ N M o. bind (opener k d) (in_parens inside N M o)) s ns ms (Err (Refused r c)) ns ms
+  pub child_wrong : {e : NoHead} → MetHead text (opener k d) (cursor_at s.at) (Err e) → Reads text (λ N M o. bind (opener k d) (in_parens inside N M o)) s ns ms (Err (Refused e.refusal e.next)) ns ms
   unfolding parens
-  child_wrong x = head_wrong (in_parens inside) m (λ N M o. refl) x
+  child_wrong m = head_wrong (in_parens inside) m (λ N M o r. refl)
 
 module _ {text ns ms : List ℕ} (d : ℕ) {s : Spot} {r : Answer} {ns' ms' : List ℕ} where
   pub as_line : Reads text (unnamed_of kind_line_string (λ d' i. list_of i (coord_of d')) d) s ns ms r ns' ms' → Reads text (parts.line_of d) s ns ms r ns' ms'
@@ -279,8 +281,8 @@ after_name depth N M o h = geometry_by N M enough (collection N M enough depth) 
 abbrev named_of : P spec.Head → ℕ → Part
 named_of p depth N M o = bind p (after_name depth N M o)
 
-module _ {text ns ms : List ℕ} {p : P spec.Head} (depth : ℕ) {s : Spot} {h : Head} (m : MetHead text p (cursor_at s.at) h) where
-  module _ {k d i at : ℕ} {q : Spot} {r : Answer} {ns' ms' : List ℕ} (x : h ≡ Opens k d i at) (j : q ≡ spot at s.nodes s.numbers) where
+module _ {text ns ms : List ℕ} {p : P spec.Head} (depth : ℕ) {s : Spot} where
+  module _ {h : Head} (m : MetHead text p (cursor_at s.at) (Ok h)) {k d i at : ℕ} {q : Spot} {r : Answer} {ns' ms' : List ℕ} (x : h ≡ Opens k d i at) (j : q ≡ spot at s.nodes s.numbers) where
     pub named_collection : k ≡ kind_geometry_collection → Reads text (collection_of depth d i) q ns ms r ns' ms' → Reads text (named_of p depth) s ns ms r ns' ms'
     unfolding geometry_by
     named_collection y c = head_opens (after_name depth) m x j (record { met = λ N M g u. rw (eq-eqb k kind_geometry_collection y) (c.met N M g u) })
@@ -289,13 +291,13 @@ module _ {text ns ms : List ℕ} {p : P spec.Head} (depth : ℕ) {s : Spot} {h :
     unfolding geometry_by
     named_simple y c = head_opens (after_name depth) m x j (record { met = λ N M g u. rw (ne_eqb k kind_geometry_collection y) (c.met N M g u) })
 
-  pub named_empty_law : {k d i at : ℕ} {q : Spot} {r : Answer} {ns' : List ℕ} → Fits text ns ms s → h ≡ Empty k d i at → q ≡ spot at s.nodes s.numbers → r ≡ row_for ns i q → ns' ≡ open_row ns q.nodes k d → Reads text (named_of p depth) s ns ms r ns' ms
+  pub named_empty_law : {h : Head} → MetHead text p (cursor_at s.at) (Ok h) → {k d i at : ℕ} {q : Spot} {r : Answer} {ns' : List ℕ} → Fits text ns ms s → h ≡ Empty k d i at → q ≡ spot at s.nodes s.numbers → r ≡ row_for ns i q → ns' ≡ open_row ns q.nodes k d → Reads text (named_of p depth) s ns ms r ns' ms
   unfolding geometry_by
-  named_empty_law v x j e l = head_empty (after_name depth) m (λ N M o. refl) v x j e l
+  named_empty_law m v x j e l = head_empty (after_name depth) m (λ N M o. refl) v x j e l
 
-  pub named_wrong : {r : Refusal} {c : Cursor} → h ≡ Wrong r c → Reads text (named_of p depth) s ns ms (Err (Refused r c)) ns ms
+  pub named_wrong : {e : NoHead} → MetHead text p (cursor_at s.at) (Err e) → Reads text (named_of p depth) s ns ms (Err (Refused e.refusal e.next)) ns ms
   unfolding geometry_by
-  named_wrong x = head_wrong (after_name depth) m (λ N M o. refl) x
+  named_wrong m = head_wrong (after_name depth) m (λ N M o r. refl)
 
 module _ {text ns ms : List ℕ} {s : Spot} {r : Answer} {ns' ms' : List ℕ} where
   pub as_child : (depth : ℕ) → Reads text (named_of child_head depth) s ns ms r ns' ms' → Reads text (parts.child_of depth) s ns ms r ns' ms'

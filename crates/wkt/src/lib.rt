@@ -95,7 +95,8 @@ fn geometry(
     requires { Fits text.now nodes.old numbers.old s }
     ensures { Reads text.now (child_of depth) s nodes.old numbers.old result nodes.new numbers.new }
 {
-    match headings::child_head(text, s.at) {
+    let head = headings::child_head(text, s.at)?;
+    match head {
         Head::Opens(kind, dimension, place, at) => {
             let here = moved(at, s);
             if kind == KIND_GEOMETRYCOLLECTION {
@@ -107,7 +108,6 @@ fn geometry(
         Head::Empty(kind, dimension, place, at) => {
             open_node(nodes, kind, dimension, place, moved(at, s))
         }
-        Head::Wrong(r, cursor) => Err(Unread::Refused(r, cursor)),
     }
 }
 
@@ -116,7 +116,8 @@ fn root(text: &[u8], nodes: &mut [u32], numbers: &mut [u32]) -> Result<Spot, Unr
     requires { length text.now + 2 < 2 ^ 32 }
     ensures { Reads text.now root_of (spot 0 0 0) nodes.old numbers.old result nodes.new numbers.new }
 {
-    match headings::root_head(text, 0) {
+    let head = headings::root_head(text, 0)?;
+    match head {
         Head::Opens(kind, dimension, place, at) => {
             let here = Spot {
                 at,
@@ -143,7 +144,6 @@ fn root(text: &[u8], nodes: &mut [u32], numbers: &mut [u32]) -> Result<Spot, Unr
                 },
             )
         }
-        Head::Wrong(r, cursor) => Err(Unread::Refused(r, cursor)),
     }
 }
 

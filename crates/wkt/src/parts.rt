@@ -95,11 +95,11 @@ pub(crate) fn unnamed<B: InParens>(
     requires { Fits text.now nodes.old numbers.old s }
     ensures { Reads text.now (unnamed_of B.KIND B.holds dimension) s nodes.old numbers.old result nodes.new numbers.new }
 {
-    match opener(text, B::KIND, dimension, s.at) {
+    let head = opener(text, B::KIND, dimension, s.at)?;
+    match head {
         Head::Opens(_, d, place, at) => {
             in_parens::<B>(text, nodes, numbers, d, place, moved(at, s))
         }
         Head::Empty(k, d, place, at) => open_node(nodes, k, d, place, moved(at, s)),
-        Head::Wrong(r, cursor) => Err(Unread::Refused(r, cursor)),
     }
 }

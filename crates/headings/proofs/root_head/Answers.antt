@@ -4,6 +4,7 @@ use native.Mathlib.Omega.{arith}
 use Rattle.scan.specs.Bytes.{is_ascii}
 use Rattle.lists.specs.Lists.{every}
 use Rattle.names.specs.Names.{meaning}
+use Rattle.headings.proofs.Ascii.{all_every}
 use Rattle.headings.proofs.Heads.{told, told_word, root_no, root_word, root_wide}
 use Rattle.headings.proofs.root_head.Goals as goal
 
@@ -19,9 +20,9 @@ slice_bounds-word-end c = omega (arith, (told _ _ c.take_at-token.ensures).fits)
 pub returns-then-is_ascii : goal.returns-then-is_ascii
 returns-then-is_ascii c =
     let u = c.take_at-token.ensures in
-    root_word u c.if-token-ne-WORD.false (sym (told_word (every is_ascii) (told _ _ u) c.is_ascii.ensures) ∙ c.if-is_ascii.true) (told_word meaning (told _ _ u) c.name_of.ensures) c.by_name.ensures
+    root_word u c.if-token-ne-WORD.false (sym (told_word (every is_ascii) (told _ _ u) (c.is_ascii.ensures ∙ all_every _ _)) ∙ c.if-is_ascii.true) (told_word meaning (told _ _ u) c.name_of.ensures) c.by_name.ensures
 
 pub returns-else-is_ascii : goal.returns-else-is_ascii
 returns-else-is_ascii c =
     let u = c.take_at-token.ensures in
-    root_wide u c.if-token-ne-WORD.false (sym (told_word (every is_ascii) (told _ _ u) c.is_ascii.ensures) ∙ c.if-is_ascii.false) c.new-else-is_ascii.ensures
+    root_wide u c.if-token-ne-WORD.false (sym (told_word (every is_ascii) (told _ _ u) (c.is_ascii.ensures ∙ all_every _ _)) ∙ c.if-is_ascii.false) c.new-else-is_ascii.ensures

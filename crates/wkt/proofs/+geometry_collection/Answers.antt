@@ -12,18 +12,20 @@ use Rattle.wkt.proofs.Bodies.{body_fits, opened_full, opened_done, named_collect
 use Rattle.wkt.proofs.+geometry_collection.Goals as goal
 
 pub geometry-returns-then-kind-eq-KIND_GEOMETRYCOLLECTION : goal.geometry-returns-then-kind-eq-KIND_GEOMETRYCOLLECTION
-geometry-returns-then-kind-eq-KIND_GEOMETRYCOLLECTION t c = as_child _ (named_collection _ c.child_head.ensures c.in-Opens.is c.moved-here.ensures c.if-kind-eq-KIND_GEOMETRYCOLLECTION.true c.collection.ensures)
+geometry-returns-then-kind-eq-KIND_GEOMETRYCOLLECTION t c = as_child _ (named_collection _ c.in_ok-head.ensures c.in-Opens.is c.moved-here.ensures c.if-kind-eq-KIND_GEOMETRYCOLLECTION.true c.collection.ensures)
 
 pub geometry-returns-else-kind-eq-KIND_GEOMETRYCOLLECTION : goal.geometry-returns-else-kind-eq-KIND_GEOMETRYCOLLECTION
-geometry-returns-else-kind-eq-KIND_GEOMETRYCOLLECTION t c = as_child _ (named_simple _ c.child_head.ensures c.in-Opens.is c.moved-here.ensures c.if-kind-eq-KIND_GEOMETRYCOLLECTION.false c.simple.ensures)
+geometry-returns-else-kind-eq-KIND_GEOMETRYCOLLECTION t c = as_child _ (named_simple _ c.in_ok-head.ensures c.in-Opens.is c.moved-here.ensures c.if-kind-eq-KIND_GEOMETRYCOLLECTION.false c.simple.ensures)
 
 pub geometry-returns-in-Empty : goal.geometry-returns-in-Empty
 geometry-returns-in-Empty t c =
     let row = c.open_node.ensures in
-    as_child _ (named_empty_law _ c.child_head.ensures c.requires c.in-Empty.is c.moved.ensures row.0 row.1)
+    as_child _ (named_empty_law _ c.in_ok-head.ensures c.requires c.in-Empty.is c.moved.ensures row.0 row.1)
 
-pub geometry-returns-in-Wrong : goal.geometry-returns-in-Wrong
-geometry-returns-in-Wrong t c = as_child _ (named_wrong _ c.child_head.ensures c.in-Wrong.is)
+pub geometry-returns-in_err-head : goal.geometry-returns-in_err-head
+geometry-returns-in_err-head t c =
+    let p = err_from_is_err_and c.from_residual.result c.from_residual.ensures.1 in
+    rw (p.1, p.2) (as_child _ (named_wrong _ c.in_err-head.ensures))
 
 pub geometrycollection::collection-returns-then-depth-eq0 : goal.geometrycollection::collection-returns-then-depth-eq0
 geometrycollection::collection-returns-then-depth-eq0 t c = collection_deep _ _ _ c.if-depth-eq0.true c.too_deep.ensures
