@@ -3,10 +3,15 @@
 use Prim.Native.Nat.{ℕ}
 use mathlib.Core.Path.{◌≡◌, sym, ◌∙◌}
 use mathlib.Core.List.{List, [], ◌∷◌}
+use Rattle.lists.specs.One.{One}
+use Rattle.lists.proofs.One.{one}
 use Rattle.store.specs.declared.WriteAnswer.{WriteAnswer}
 use Rattle.store.specs.Answers.{refusal, Writes, writes_one}
 use Rattle.pen.specs.declared.Pen.{Pen}
-use Rattle.pen.specs.Pen.{Puts}
+use Rattle.pen.specs.Pen.{end_of, Puts}
+
+pub end_of_one : (p : Pen) (out : List ℕ) (count : ℕ) → One (λ r. r ≡ end_of p out count)
+end_of_one p out count = one
 
 -- two outcomes of `put`: the pen and the slice
 pub put_one : {piece out left left' : List ℕ} {p r r' : Pen} → Puts piece p out r left → Puts piece p out r' left' → (r ≡ r') × (left ≡ left')

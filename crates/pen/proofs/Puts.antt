@@ -1,7 +1,7 @@
 -- Laws of a pen: by whether there is room for a piece, and what it then owes of a text.
 -- Assumes nothing.
 use mathlib.Core.Path.{◌≡◌, refl, ap, sym, ◌∙◌}
-use mathlib.Core.Bool.{Bool, true, false}
+use mathlib.Core.Bool.{Bool, true, false, not, ◌&&◌, cond}
 use mathlib.Core.List.{List, [], ◌∷◌, ◌++◌, append_assoc}
 use Prim.Native.Nat.{ℕ, suc, ◌+◌, ◌≤◌, ◌<◌}
 use native.Mathlib.Omega.{arith}
@@ -10,8 +10,9 @@ use lib.Dec.{leb}
 use borrow.Author.Tests.{le-leb, lt-leb, leb-true, leb-false}
 use lib.ListN.{length, take, drop, get_or, set, length-append, drop_of_length-le}
 use lib.Seq.{sets, sets-eq, length-sets, drop-cons, take_at, length-take-le}
+use Rattle.std.specs.Prelude.{Some, None}
 use Rattle.pen.specs.declared.Pen.{Pen}
-use Rattle.pen.specs.Pen.{pen, has_room, pen_after, out_after, Puts, ToPut, Owes, Emits}
+use Rattle.pen.specs.Pen.{pen, room_for, end_of, has_room, pen_after, out_after, Puts, ToPut, Owes, Emits}
 
 -- ---- a piece is put, or has no room
 module _ (piece : List ℕ) (p : Pen) (out : List ℕ) where
@@ -32,6 +33,29 @@ module _ (piece : List ℕ) (p : Pen) (out : List ℕ) where
   puts_all e h at out' a b =
       let t = le-leb (p.at + length piece) (length out) h in
       record { stands = rw (e, t, a); bytes = rw (e, t) b }
+
+-- by where the bytes end
+pub ends_in : (p : Pen) (out : List ℕ) (n end : ℕ) → Some end ≡ end_of p out n → (p.full ≡ false) × (end ≡ p.at + n) × (p.at + n ≤ length out)
+ends_in p out n end = go p.full (leb (p.at + n) (length out)) refl
+  where
+    go : (full t : Bool) → leb (p.at + n) (length out) ≡ t → Some end ≡ cond (not full && t) (Some (p.at + n)) None → (full ≡ false) × (end ≡ p.at + n) × (p.at + n ≤ length out)
+    go false true h e = (refl, cc, leb-true _ _ h)
+    go false false h e = cc
+    go true t h e = cc
+
+module _ (piece : List ℕ) (p : Pen) (out : List ℕ) where
+  pub puts_in : {n : ℕ} → n ≡ length piece → (end : ℕ) (out' : List ℕ) → Some end ≡ end_of p out n → out' ≡ sets out p.at piece → Puts piece p out (pen end false) out'
+  puts_in {n} l end out' e b =
+      let r = ends_in p out n end e in
+      puts_all piece p out r.0 (rw l at r.2) end out' (rw l at r.1) b
+
+  pub puts_out : {n : ℕ} → n ≡ length piece → None ≡ end_of p out n → Puts piece p out (pen p.at true) out
+  unfolding has_room
+  puts_out {n} l e = no_room_law piece p out (go (room_for p out (length piece)) (rw l at e))
+    where
+      go : (t : Bool) → None ≡ cond t (Some (p.at + length piece)) None → t ≡ false
+      go true e = cc
+      go false e = refl
 
 -- the contract leaves no choice
 pub puts_once : {piece : List ℕ} {p : Pen} {out : List ℕ} {r r' : Pen} {out₁ out₂ : List ℕ} → Puts piece p out r out₁ → Puts piece p out r' out₂ → (r ≡ r') × (out₁ ≡ out₂)

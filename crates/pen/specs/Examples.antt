@@ -1,6 +1,6 @@
 -- Worked examples of this crate's definitions, by computation.
-use Rattle.std.specs.Prelude.{◌≡◌, refl, true, false, List, [], ◌∷◌, ℕ}
-use Rattle.pen.specs.Pen.{pen, has_room, pen_after, out_after}
+use Rattle.std.specs.Prelude.{◌≡◌, refl, true, false, List, [], ◌∷◌, ℕ, Some, None}
+use Rattle.pen.specs.Pen.{pen, end_of, has_room, pen_after, out_after}
 
 -- one byte stands in a slice of three
 out : List ℕ
@@ -9,6 +9,11 @@ out = 65 ∷ 0 ∷ 9 ∷ []
 all : ℕ
 unfolding out has_room pen_after out_after
 all = 0
+
+-- two bytes from place 1 on end at 3, three have no room; a full pen has none, nor has one past the end
+ends : (end_of (pen 1 false) out 2 ≡ Some 3) × (end_of (pen 1 false) out 3 ≡ None) × (end_of (pen 3 false) out 0 ≡ Some 3) × (end_of (pen 4 false) out 0 ≡ None) × (end_of (pen 1 true) out 1 ≡ None)
+unfolding all
+ends = (refl, refl, refl, refl, refl)
 
 -- two bytes have room, three have none
 put : (out_after (pen 1 false) out (66 ∷ 67 ∷ []) ≡ 65 ∷ 66 ∷ 67 ∷ []) × (pen_after (pen 1 false) out (66 ∷ 67 ∷ []) ≡ pen 3 false) × (out_after (pen 1 false) out (66 ∷ 67 ∷ 68 ∷ []) ≡ out) × (pen_after (pen 1 false) out (66 ∷ 67 ∷ 68 ∷ []) ≡ pen 1 true)

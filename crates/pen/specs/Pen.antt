@@ -1,14 +1,20 @@
 -- A pen puts pieces one after the other into a slice, and turns full where one has no room.
-use Rattle.std.specs.Prelude.{◌≡◌, Bool, true, false, cond, not, ◌&&◌, List, ◌++◌, ℕ, ◌+◌, ◌≤◌, ◌<◌, leb, length, take}
+use Rattle.std.specs.Prelude.{◌≡◌, Bool, true, false, cond, not, ◌&&◌, List, ◌++◌, ℕ, ◌+◌, ◌≤◌, ◌<◌, leb, length, take, Option, Some, None}
 use Rattle.std.proofs.lemmas.List.Edits.{sets}
 use Rattle.pen.specs.declared.Pen.{Pen}
 
 abbrev pub pen : ℕ → Bool → Pen
 pen at full = record { at = at; full = full }
 
--- there is room for the piece
+-- there is room for n bytes, and where they end; for the piece
+abbrev pub room_for : Pen → List ℕ → ℕ → Bool
+room_for p out n = not p.full && leb (p.at + n) (length out)
+
+abbrev pub end_of : Pen → List ℕ → ℕ → Option ℕ
+end_of p out n = cond (room_for p out n) (Some (p.at + n)) None
+
 unfoldable pub has_room : Pen → List ℕ → List ℕ → Bool
-has_room p out piece = not p.full && leb (p.at + length piece) (length out)
+has_room p out piece = room_for p out (length piece)
 
 unfoldable pub pen_after : Pen → List ℕ → List ℕ → Pen
 pen_after p out piece = cond (has_room p out piece) (pen (p.at + length piece) false) (pen p.at true)

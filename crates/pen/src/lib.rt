@@ -3,7 +3,7 @@
 
 ghost use Rattle.std.specs.Prelude.{◌≡◌, [], ◌∷◌, length};
 ghost use Rattle.store.specs.Answers.{refusal, Writes};
-ghost use Rattle.pen.specs.Pen.{Puts};
+ghost use Rattle.pen.specs.Pen.{end_of, Puts};
 
 use store::WriteAnswer;
 
@@ -14,79 +14,76 @@ pub struct Pen {
     pub full: bool,
 }
 
+// Where the next `count` bytes end, if there is room for them.
+pub fn end_of(out: &[u8], p: Pen, count: usize) -> Option<usize>
+    ensures { result ≡ end_of p out.now count }
+{
+    if p.full | (out.len() < p.at) {
+        return None;
+    }
+    if out.len() - p.at < count {
+        return None;
+    }
+    Some(p.at + count)
+}
+
 // Puts a whole piece, or nothing.
 pub fn put(out: &mut [u8], p: Pen, piece: &[u8]) -> Pen
     ensures { Puts piece.now p out.old result out.new }
 {
-    let at = p.at;
-    if p.full {
-        return Pen { at, full: true };
-    }
-    if out.len() < at {
-        return Pen { at, full: true };
-    }
-    if out.len() - at < piece.len() {
-        return Pen { at, full: true };
-    }
-    let mut i = 0;
-    while i < piece.len() {
-        out[at + i] = piece[i];
-        i += 1;
-    }
-    Pen {
-        at: at + i,
-        full: false,
+    match end_of(out, p, piece.len()) {
+        Some(end) => {
+            out[p.at..end].copy_from_slice(piece);
+            Pen {
+                at: end,
+                full: false,
+            }
+        }
+        None => Pen {
+            at: p.at,
+            full: true,
+        },
     }
 }
 
-// Puts a byte and a piece after it, or nothing. A piece of one byte needs no loop.
+// Puts a byte and a piece after it, or nothing. A piece of one byte needs no call that copies.
 pub fn put_led(out: &mut [u8], p: Pen, lead: u8, piece: &[u8]) -> Pen
     ensures { Puts (lead ∷ piece.now) p out.old result out.new }
 {
-    let at = p.at;
-    if p.full {
-        return Pen { at, full: true };
-    }
-    if out.len() < at {
-        return Pen { at, full: true };
-    }
-    if out.len() - at <= piece.len() {
-        return Pen { at, full: true };
-    }
-    out[at] = lead;
-    let from = at + 1;
-    if piece.len() == 1 {
-        out[from] = piece[0];
-        return Pen {
-            at: from + 1,
-            full: false,
-        };
-    }
-    let mut i = 0;
-    while i < piece.len() {
-        out[from + i] = piece[i];
-        i += 1;
-    }
-    Pen {
-        at: from + i,
-        full: false,
+    match end_of(out, p, piece.len() + 1) {
+        Some(end) => {
+            out[p.at] = lead;
+            match piece {
+                [b] => out[p.at + 1] = *b,
+                _ => out[p.at + 1..end].copy_from_slice(piece),
+            }
+            Pen {
+                at: end,
+                full: false,
+            }
+        }
+        None => Pen {
+            at: p.at,
+            full: true,
+        },
     }
 }
 
 pub fn put_byte(out: &mut [u8], p: Pen, b: u8) -> Pen
     ensures { Puts (b ∷ []) p out.old result out.new }
 {
-    let at = p.at;
-    if p.full {
-        return Pen { at, full: true };
-    }
-    if out.len() <= at {
-        return Pen { at, full: true };
-    }
-    out[at] = b;
-    Pen {
-        at: at + 1,
-        full: false,
+    match end_of(out, p, 1) {
+        Some(end) => {
+            out[p.at] = b;
+            Pen {
+                at: end,
+                full: false,
+            }
+        }
+        None => Pen {
+            at: p.at,
+            full: true,
+        },
     }
 }
 
