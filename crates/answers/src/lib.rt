@@ -131,15 +131,16 @@ pub fn closing(
     let rows = s.nodes;
     let used = s.numbers;
     // Most often it is held, or stands right behind the body.
-    let closes = cursor.closes(text);
-    let mut at = closes.at;
-    if !closes.close {
-        let token = sorts::take(text, cursor);
-        if token.sort != CLOSE {
-            return not_closed(text, token);
+    let at = match cursor.closes(text) {
+        Some(at) => at,
+        None => {
+            let token = sorts::take(text, cursor);
+            if token.sort != CLOSE {
+                return not_closed(text, token);
+            }
+            token.at
         }
-        at = token.at;
-    }
+    };
     ended(
         nodes,
         row,

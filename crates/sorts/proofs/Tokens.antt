@@ -15,7 +15,7 @@ use Rattle.token.specs.declared.Token.TheVariants.{Comma, Number, ParenClose, Pa
 use Rattle.token.specs.declared.Found.{Found}
 use Rattle.tokenizer.specs.declared.Cursor.{Cursor}
 use Rattle.tokenizer.specs.declared.PassedOpen.{PassedOpen}
-use Rattle.tokenizer.specs.declared.Closes.{Closes}
+use Rattle.std.specs.Prelude.{Some}
 use Rattle.tokenizer.specs.Tokens.{cursor_at, take_at, is_open_token, is_open, place_in, pass_open, closes_at}
 use Rattle.token_stream.specs.Stream.{Tok, tok, hd, tl, span_in, tk_in, tok_in, stream}
 use Rattle.token_stream.specs.Sound.{SoundToken, SoundFound, Sound}
@@ -181,11 +181,11 @@ module _ (text : List ℕ) (c : Cursor) {r : PassedOpen} (e : r ≡ pass_open te
     other_stays = look_same text c ∙ ap (stream text) (sym (open_not text c r e n).2)
 
 -- `)` is what would be taken
-module _ (text : List ℕ) (c : Cursor) {r : Closes} (e : r ≡ closes_at text c) (y : r.close ≡ true) where
+module _ (text : List ℕ) (c : Cursor) (i : ℕ) (e : closes_at text c ≡ Some i) where
   pub closes_sort : (taken_at text c).sort ≡ sort_close
   unfolding taken_at told
-  closes_sort = rw (close_taken text c r e y).1
+  closes_sort = rw (close_taken text c i e).1
 
-  pub closes_at_law : (taken_at text c).at ≡ r.at
+  pub closes_at_law : (taken_at text c).at ≡ i
   unfolding taken_at told
-  closes_at_law = rw (close_taken text c r e y).1
+  closes_at_law = rw (close_taken text c i e).1

@@ -71,17 +71,14 @@ fn read_number(text: &[u8], p: usize) -> Read
     let start = after_plus(text, p);
     let lexeme = read_lexeme(text, start);
     let end = lexeme.end;
-    let at = after_blank(text, end);
-    if lexeme.good {
-        Read {
-            found: Found::Is(p, Token::Number(start, end - start)),
-            at,
-        }
+    let found = if lexeme.good {
+        Found::Is(p, Token::Number(start, end - start))
     } else {
-        Read {
-            found: Found::BadNumber(p),
-            at,
-        }
+        Found::BadNumber(p)
+    };
+    Read {
+        found,
+        at: after_blank(text, end),
     }
 }
 

@@ -3,7 +3,9 @@
 use mathlib.Core.Path.{◌≡◌, refl, sym, ap, ◌∙◌}
 use mathlib.Core.Bool.{Bool, true, false, false≢true}
 use mathlib.Core.List.{List}
-use Prim.Native.Nat.{ℕ}
+use Prim.Native.Nat.{ℕ, ◌+◌}
+use Rattle.std.specs.Prelude.{Option, Some, None, cond}
+use Rattle.std.proofs.lemmas.Option.{none-some}
 use Rattle.lists.proofs.Cases.{either}
 use Rattle.scan.specs.Bytes.{paren_close}
 use Rattle.token.specs.declared.Token.{Token}
@@ -13,7 +15,6 @@ use Rattle.tokenizer.specs.declared.Held.{Held}
 use Rattle.tokenizer.specs.declared.Cursor.{Cursor}
 use Rattle.tokenizer.specs.declared.Passed.{Passed}
 use Rattle.tokenizer.specs.declared.PassedOpen.{PassedOpen}
-use Rattle.tokenizer.specs.declared.Closes.{Closes}
 use Rattle.tokenizer.specs.Tokens.{step, cursor_at, take_held, take_at, look_at, is_comma, stands_at, pass_comma, is_open_token, is_open, place_in, pass_open, is_close_token, closes_held, closes_at}
 use Rattle.tokenizer.proofs.Marks.{close_taken_here, close_here}
 
@@ -36,6 +37,13 @@ close_token p Comma y = absurd (false≢true y)
 close_token p (Number s l) y = absurd (false≢true y)
 close_token p ParenOpen y = absurd (false≢true y)
 close_token p (Word s l) y = absurd (false≢true y)
+
+abbrev place_or_zero : Option ℕ → ℕ
+place_or_zero None = 0
+place_or_zero (Some i) = i
+
+place_some : {i j : ℕ} → Some i ≡ Some j → i ≡ j
+place_some e = ap place_or_zero e
 
 module _ (text : List ℕ) (c : Cursor) where
   pub take_free : (take_at text c).next ≡ cursor_at (take_at text c).next.at
@@ -78,20 +86,30 @@ module _ (text : List ℕ) (c : Cursor) where
         let Q : PassedOpen → Type 0 = λ p. p.opens ≡ false → (is_open (take_at text c).found ≡ false) × (p.place ≡ place_in (take_at text c).found) × (p.next ≡ (look_at text c).next) in
         rw e (either (is_open (take_at text c).found) Q _ _ (λ y z. absurd (false≢true (sym z))) (λ n z. (n, refl, refl)))
 
-  stands_or_not : c.held ≡ Held.Nothing → (closes_at text c).close ≡ true → take_at text c ≡ step (Found.Is c.at ParenClose) (cursor_at (closes_at text c).at)
-  stands_or_not h z = go (stands_at text paren_close c) refl
-    where
-      go : (b : Bool) → stands_at text paren_close c ≡ b → take_at text c ≡ step (Found.Is c.at ParenClose) (cursor_at (closes_at text c).at)
-      go true y = rw (← close_here text c h true y) (close_taken_here text c y)
-      go false n = absurd (false≢true (ap (λ (r : Closes). r.close) (close_here text c h false n) ∙ z))
+  module _ (i : ℕ) where
+    stands_or_not : c.held ≡ Held.Nothing → closes_at text c ≡ Some i → take_at text c ≡ step (Found.Is c.at ParenClose) (cursor_at i)
+    stands_or_not h z = go (stands_at text paren_close c) refl
+      where
+        go : (b : Bool) → stands_at text paren_close c ≡ b → take_at text c ≡ step (Found.Is c.at ParenClose) (cursor_at i)
+        go true y =
+            let s : Some (c.at + 1) ≡ Some i = close_here text c h true y ∙ z in
+            rw (← place_some s) (close_taken_here text c y)
+        go false n = absurd (none-some i (close_here text c h false n ∙ z))
 
-  close_held : (h : Held) → c.held ≡ h → (closes_at text c).close ≡ true → (p : ℕ) × (take_at text c ≡ step (Found.Is p ParenClose) (cursor_at (closes_at text c).at))
-  unfolding closes_held take_held
-  close_held Held.Nothing h z = (c.at, stands_or_not h z)
-  close_held (Held.NoToken p) h z = absurd (false≢true (rw h at z))
-  close_held (Held.BadNumber p) h z = absurd (false≢true (rw h at z))
-  close_held (Held.Is p t) h z = (p, rw h (ap (λ (f : Found). step f (cursor_at c.at)) (close_token p t (rw h at z))))
+    held_close : (p : ℕ) (t : Token) → cond (is_close_token t) (Some c.at) None ≡ Some i → Found.Is p t ≡ Found.Is p ParenClose × c.at ≡ i
+    held_close p t z = go (is_close_token t) refl z
+      where
+        go : (b : Bool) → is_close_token t ≡ b → cond b (Some c.at) None ≡ Some i → Found.Is p t ≡ Found.Is p ParenClose × c.at ≡ i
+        go true y z = (close_token p t y, place_some z)
+        go false n z = absurd (none-some i z)
 
-  -- `)` is what would be taken
-  pub close_taken : (r : Closes) → r ≡ closes_at text c → r.close ≡ true → (p : ℕ) × (take_at text c ≡ step (Found.Is p ParenClose) (cursor_at r.at))
-  close_taken r e y = rw e (close_held c.held refl (rw e at y))
+    close_held : (h : Held) → c.held ≡ h → closes_at text c ≡ Some i → (p : ℕ) × (take_at text c ≡ step (Found.Is p ParenClose) (cursor_at i))
+    unfolding closes_held take_held
+    close_held Held.Nothing h z = (c.at, stands_or_not h z)
+    close_held (Held.NoToken p) h z = absurd (none-some i (rw h at z))
+    close_held (Held.BadNumber p) h z = absurd (none-some i (rw h at z))
+    close_held (Held.Is p t) h z = (p, rw h (let k = held_close p t (rw h at z) in rw (k.0, k.1)))
+
+    -- `)` is what would be taken
+    pub close_taken : closes_at text c ≡ Some i → (p : ℕ) × (take_at text c ≡ step (Found.Is p ParenClose) (cursor_at i))
+    close_taken y = close_held c.held refl y

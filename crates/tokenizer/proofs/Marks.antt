@@ -4,6 +4,7 @@ use mathlib.Core.Path.{◌≡◌, refl, ap, ◌∙◌}
 use mathlib.Core.Bool.{Bool, true, false, false≢true, cond, ◌&&◌}
 use mathlib.Core.List.{List}
 use Prim.Native.Nat.{ℕ, ◌+◌, ◌<◌}
+use Rattle.std.specs.Prelude.{Some, None}
 use lib.Dec.{eqb, ltb}
 use lib.ListN.{length, get_or}
 use borrow.Author.Tests.{eqb-true, ltb-true, lt-leb}
@@ -17,7 +18,7 @@ use Rattle.tokenizer.specs.declared.Held.{Held}
 use Rattle.tokenizer.specs.declared.Cursor.{Cursor}
 use Rattle.tokenizer.specs.declared.Step.{Step}
 use Rattle.token.specs.Tokens.{start_at, token_at, read_at}
-use Rattle.tokenizer.specs.Tokens.{step, cursor_at, take_held, take_at, look_at, is_nothing, is_comma, stands_at, passed, pass_by, pass_comma, is_open, place_in, passed_open, pass_open_by, pass_open, closes, closes_held, closes_at}
+use Rattle.tokenizer.specs.Tokens.{step, cursor_at, take_held, take_at, look_at, is_nothing, is_comma, stands_at, passed, pass_by, pass_comma, is_open, place_in, passed_open, pass_open_by, pass_open, closes_held, closes_at}
 
 pub held_nothing : (h : Held) → is_nothing h ≡ true → h ≡ Held.Nothing
 held_nothing Held.Nothing y = refl
@@ -88,7 +89,7 @@ module _ (text : List ℕ) where
       open_no n = let z : passed_open false p s.next ≡ pass_open_by s = rw (n, f) in z ∙ ap pass_open_by e
 
     -- `)`
-    pub close_here : c.held ≡ Held.Nothing → (b : Bool) → stands_at text paren_close c ≡ b → cond b (closes true (c.at + 1)) (closes false c.at) ≡ closes_at text c
+    pub close_here : c.held ≡ Held.Nothing → (b : Bool) → stands_at text paren_close c ≡ b → cond b (Some (c.at + 1)) None ≡ closes_at text c
     unfolding closes_held
     close_here h b y =
         let z : (ltb c.at (length text) && eqb (get_or text c.at 0) paren_close) ≡ b = rw h at y in

@@ -1,5 +1,5 @@
 -- Worked examples of this crate's definitions, by computation.
-use Rattle.std.specs.Prelude.{◌≡◌, refl, List, [], ◌∷◌, ◌++◌, true, false, ℕ}
+use Rattle.std.specs.Prelude.{◌≡◌, refl, List, [], ◌∷◌, ◌++◌, true, false, ℕ, Option, Some, None, is_some}
 use Rattle.lists.specs.Lists.{passing, bytes_that}
 use Rattle.scan.specs.Text.{bytes}
 use Rattle.scan.specs.Front.{begins, after_one, after_all, is_nil}
@@ -13,8 +13,7 @@ use Rattle.token.specs.Tokens.{number_at, word_at, start_at, token_at, read_at}
 use Rattle.tokenizer.specs.declared.Held.{Held}
 use Rattle.tokenizer.specs.declared.Passed.{Passed}
 use Rattle.tokenizer.specs.declared.PassedOpen.{PassedOpen}
-use Rattle.tokenizer.specs.declared.Closes.{Closes}
-use Rattle.tokenizer.specs.Tokens.{take_held, take_at, look_at, cursor_at, passed, pass_comma, passed_open, pass_open, closes, closes_held, closes_at}
+use Rattle.tokenizer.specs.Tokens.{take_held, take_at, look_at, cursor_at, passed, pass_comma, passed_open, pass_open, closes_held, closes_at}
 
 -- `POINT(++4 -4e x`, NUL, `)`
 text : List ℕ
@@ -60,26 +59,26 @@ unfolding all
 unopened = (refl, refl, refl, refl)
 
 -- `)` that stands at the cursor, and one that is held: the place behind it
-closed : (closes_at text (cursor_at 16) ≡ closes true 17) × (closes_at text (record { at = 3; held = Held.Is 1 Token.ParenClose }) ≡ closes true 3)
+closed : (closes_at text (cursor_at 16) ≡ Some 17) × (closes_at text (record { at = 3; held = Held.Is 1 Token.ParenClose }) ≡ Some 3)
 unfolding all
 closed = (refl, refl)
 
 -- not one behind a blank, nor one behind another token that is held, nor what is past the end
-unclosed : (closes_at (bytes " )") (cursor_at 0) ≡ closes false 0) × (closes_at text (record { at = 16; held = Held.Is 5 Token.ParenOpen }) ≡ closes false 16) × (closes_at text (record { at = 16; held = Held.BadNumber 10 }) ≡ closes false 16) × (closes_at text (cursor_at 17) ≡ closes false 17)
+unclosed : (closes_at (bytes " )") (cursor_at 0) ≡ None) × (closes_at text (record { at = 16; held = Held.Is 5 Token.ParenOpen }) ≡ None) × (closes_at text (record { at = 16; held = Held.BadNumber 10 }) ≡ None) × (closes_at text (cursor_at 17) ≡ None)
 unfolding all
 unclosed = (refl, refl, refl, refl)
 
 -- each sort of what is held, before a `,`, a `(` or a `)`: what it is itself says whether it is passed over, and it stays held
 -- where it isn't
-held_before : Held → (Passed × PassedOpen × Closes)
+held_before : Held → (Passed × PassedOpen × Option ℕ)
 held_before h = (pass_comma (bytes "x,") (record { at = 1; held = h }), pass_open (bytes "x(") (record { at = 1; held = h }), closes_at (bytes "x)") (record { at = 1; held = h }))
 
-stays : Held → (Passed × PassedOpen × Closes)
-stays h = (passed false (record { at = 1; held = h }), passed_open false 0 (record { at = 1; held = h }), closes false 1)
+stays : Held → (Passed × PassedOpen × Option ℕ)
+stays h = (passed false (record { at = 1; held = h }), passed_open false 0 (record { at = 1; held = h }), None)
 
-marks : (held_before (Held.Is 0 Comma) ≡ (passed true (cursor_at 1), (stays (Held.Is 0 Comma)).1, closes false 1))
-    × (held_before (Held.Is 0 ParenOpen) ≡ ((stays (Held.Is 0 ParenOpen)).0, passed_open true 0 (cursor_at 1), closes false 1))
-    × (held_before (Held.Is 0 ParenClose) ≡ ((stays (Held.Is 0 ParenClose)).0, (stays (Held.Is 0 ParenClose)).1, closes true 1))
+marks : (held_before (Held.Is 0 Comma) ≡ (passed true (cursor_at 1), (stays (Held.Is 0 Comma)).1, None))
+    × (held_before (Held.Is 0 ParenOpen) ≡ ((stays (Held.Is 0 ParenOpen)).0, passed_open true 0 (cursor_at 1), None))
+    × (held_before (Held.Is 0 ParenClose) ≡ ((stays (Held.Is 0 ParenClose)).0, (stays (Held.Is 0 ParenClose)).1, Some 1))
     × (held_before (Held.Is 0 (Number 0 1)) ≡ stays (Held.Is 0 (Number 0 1)))
     × (held_before (Held.Is 0 (Word 0 1)) ≡ stays (Held.Is 0 (Word 0 1)))
     × (held_before (Held.BadNumber 0) ≡ stays (Held.BadNumber 0))
@@ -91,6 +90,6 @@ marks = (refl, refl, refl, refl, refl, refl, refl)
 -- the bytes that are passed over as a comma and as `(`, and that close
 passes : (bytes_that (λ b. (pass_comma (b ∷ []) (cursor_at 0)).comma) ≡ 44 ∷ [])
     × (bytes_that (λ b. (pass_open (b ∷ []) (cursor_at 0)).opens) ≡ 40 ∷ [])
-    × (bytes_that (λ b. (closes_at (b ∷ []) (cursor_at 0)).close) ≡ 41 ∷ [])
+    × (bytes_that (λ b. is_some (closes_at (b ∷ []) (cursor_at 0))) ≡ 41 ∷ [])
 unfolding all passing
 passes = (refl, refl, refl)

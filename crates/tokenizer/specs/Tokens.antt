@@ -1,5 +1,5 @@
 -- What a cursor takes, looks at and passes over (document 01, "Tokens").
-use Rattle.std.specs.Prelude.{ℕ, ◌+◌, Bool, true, false, cond, ◌&&◌, List, length, get_or, eqb, ltb}
+use Rattle.std.specs.Prelude.{ℕ, ◌+◌, Bool, true, false, cond, ◌&&◌, List, length, get_or, eqb, ltb, Option, Some, None}
 use Rattle.scan.specs.Bytes.{paren_close}
 use Rattle.token.specs.declared.Token.{Token}
 use Rattle.token.specs.declared.Token.TheVariants.{Comma, Number, ParenClose, ParenOpen, Word}
@@ -10,7 +10,6 @@ use Rattle.tokenizer.specs.declared.Cursor.{Cursor}
 use Rattle.tokenizer.specs.declared.Step.{Step}
 use Rattle.tokenizer.specs.declared.Passed.{Passed}
 use Rattle.tokenizer.specs.declared.PassedOpen.{PassedOpen}
-use Rattle.tokenizer.specs.declared.Closes.{Closes}
 
 -- a cursor with nothing held
 abbrev pub cursor_at : ℕ → Cursor
@@ -105,15 +104,12 @@ is_close_token ParenClose = true
 is_close_token ParenOpen = false
 is_close_token (Word s l) = false
 
-abbrev pub closes : Bool → ℕ → Closes
-closes b i = record { close = b; at = i }
+-- `)` is held, or nothing is held and it stands at the cursor: the place behind it
+unfoldable pub closes_held : List ℕ → ℕ → Held → Option ℕ
+closes_held text i Held.Nothing = cond (ltb i (length text) && eqb (get_or text i 0) paren_close) (Some (i + 1)) None
+closes_held text i (Held.NoToken p) = None
+closes_held text i (Held.BadNumber p) = None
+closes_held text i (Held.Is p t) = cond (is_close_token t) (Some i) None
 
--- `)` is held, or nothing is held and it stands at the cursor; the place behind it
-unfoldable pub closes_held : List ℕ → ℕ → Held → Closes
-closes_held text i Held.Nothing = cond (ltb i (length text) && eqb (get_or text i 0) paren_close) (closes true (i + 1)) (closes false i)
-closes_held text i (Held.NoToken p) = closes false i
-closes_held text i (Held.BadNumber p) = closes false i
-closes_held text i (Held.Is p t) = closes (is_close_token t) i
-
-abbrev pub closes_at : List ℕ → Cursor → Closes
+abbrev pub closes_at : List ℕ → Cursor → Option ℕ
 closes_at text c = closes_held text c.at c.held

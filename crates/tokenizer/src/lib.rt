@@ -30,6 +30,7 @@ pub struct Step {
 }
 
 // Whether a comma was passed over, and the cursor to go on with, which holds any other token.
+// Kept (1): the cursor counts in both cases, so neither an Option nor a Result says more.
 #[derive(Clone, Copy)]
 pub struct Passed {
     pub comma: bool,
@@ -38,18 +39,12 @@ pub struct Passed {
 
 // Whether `(` was passed over, where the token starts that was looked at, and the cursor to go on with, which holds any
 // other token.
+// Kept (1): the place and the cursor count in both cases, so neither an Option nor a Result says more.
 #[derive(Clone, Copy)]
 pub struct PassedOpen {
     pub opens: bool,
     pub place: usize,
     pub next: Cursor,
-}
-
-// Whether `)` is next, without a blank in front, and the place behind it.
-#[derive(Clone, Copy)]
-pub struct Closes {
-    pub close: bool,
-    pub at: usize,
 }
 
 // What was found, as what is held.
@@ -63,68 +58,29 @@ fn held_of(found: Found) -> Held
     }
 }
 
-fn is_nothing(held: Held) -> bool
-    ensures { result ≡ is_nothing held }
-{
-    match held {
-        Held::Nothing => true,
-        Held::NoToken(_) => false,
-        Held::BadNumber(_) => false,
-        Held::Is(_, _) => false,
-    }
-}
-
 fn is_comma(found: Found) -> bool
     ensures { result ≡ is_comma found }
 {
-    match found {
-        Found::NoToken(_) => false,
-        Found::BadNumber(_) => false,
-        Found::Is(_, token) => match token {
-            Token::Comma => true,
-            Token::Number(_, _) => false,
-            Token::ParenClose => false,
-            Token::ParenOpen => false,
-            Token::Word(_, _) => false,
-        },
-    }
+    matches!(found, Found::Is(_, Token::Comma))
 }
 
 fn is_open(found: Found) -> bool
     ensures { result ≡ is_open found }
 {
-    match found {
-        Found::NoToken(_) => false,
-        Found::BadNumber(_) => false,
-        Found::Is(_, token) => match token {
-            Token::Comma => false,
-            Token::Number(_, _) => false,
-            Token::ParenClose => false,
-            Token::ParenOpen => true,
-            Token::Word(_, _) => false,
-        },
-    }
+    matches!(found, Found::Is(_, Token::ParenOpen))
 }
 
 fn is_close(token: Token) -> bool
     ensures { result ≡ is_close_token token }
 {
-    match token {
-        Token::Comma => false,
-        Token::Number(_, _) => false,
-        Token::ParenClose => true,
-        Token::ParenOpen => false,
-        Token::Word(_, _) => false,
-    }
+    matches!(token, Token::ParenClose)
 }
 
 fn place_in(found: Found) -> usize
     ensures { result ≡ place_in found }
 {
     match found {
-        Found::NoToken(p) => p,
-        Found::BadNumber(p) => p,
-        Found::Is(p, _) => p,
+        Found::NoToken(p) | Found::BadNumber(p) | Found::Is(p, _) => p,
     }
 }
 
@@ -144,30 +100,19 @@ impl Cursor {
         ensures { result ≡ stands_at text.now mark self }
     {
         let at = self.at;
-        let held = self.held;
-        if text.len() <= at {
-            return false;
-        }
-        is_nothing(held) & (text[at] == mark)
+        at < text.len() && matches!(self.held, Held::Nothing) && text[at] == mark
     }
 
     // The next token, which is passed over.
     pub fn take(self, text: &[u8]) -> Step
         ensures { result ≡ take_at text.now self }
     {
-        let at = self.at;
-        let held = self.held;
-        let found = match held {
+        let found = match self.held {
             Held::Nothing => {
-                let read = read_at(text, at);
-                let found = read.found;
-                let at = read.at;
+                let read = read_at(text, self.at);
                 return Step {
-                    found,
-                    next: Cursor {
-                        at,
-                        held: Held::Nothing,
-                    },
+                    found: read.found,
+                    next: Cursor::new(read.at),
                 };
             }
             Held::NoToken(p) => Found::NoToken(p),
@@ -176,10 +121,7 @@ impl Cursor {
         };
         Step {
             found,
-            next: Cursor {
-                at,
-                held: Held::Nothing,
-            },
+            next: Cursor::new(self.at),
         }
     }
 
@@ -188,14 +130,11 @@ impl Cursor {
         ensures { result ≡ look_at text.now self }
     {
         let step = self.take(text);
-        let found = step.found;
-        let next = step.next;
-        let at = next.at;
         Step {
-            found,
+            found: step.found,
             next: Cursor {
-                at,
-                held: held_of(found),
+                at: step.next.at,
+                held: held_of(step.found),
             },
         }
     }
@@ -209,10 +148,7 @@ impl Cursor {
         if self.stands_at(text, b',') {
             return Passed {
                 comma: true,
-                next: Cursor {
-                    at: at + 1,
-                    held: Held::Nothing,
-                },
+                next: Cursor::new(at + 1),
             };
         }
         if self.stands_at(text, b')') {
@@ -225,18 +161,10 @@ impl Cursor {
             };
         }
         let step = self.look(text);
-        let found = step.found;
-        let next = step.next;
-        if is_comma(found) {
-            Passed {
-                comma: true,
-                next: Cursor {
-                    at: next.at,
-                    held: Held::Nothing,
-                },
-            }
-        } else {
-            Passed { comma: false, next }
+        let comma = is_comma(step.found);
+        Passed {
+            comma,
+            next: if comma { Cursor::new(step.next.at) } else { step.next },
         }
     }
 
@@ -250,57 +178,38 @@ impl Cursor {
             return PassedOpen {
                 opens: true,
                 place: at,
-                next: Cursor {
-                    at: at + 1,
-                    held: Held::Nothing,
-                },
+                next: Cursor::new(at + 1),
             };
         }
         let step = self.look(text);
-        let found = step.found;
-        let next = step.next;
-        let place = place_in(found);
-        if is_open(found) {
-            PassedOpen {
-                opens: true,
-                place,
-                next: Cursor {
-                    at: next.at,
-                    held: Held::Nothing,
-                },
-            }
-        } else {
-            PassedOpen {
-                opens: false,
-                place,
-                next,
-            }
+        let opens = is_open(step.found);
+        PassedOpen {
+            opens,
+            place: place_in(step.found),
+            next: if opens { Cursor::new(step.next.at) } else { step.next },
         }
     }
 
-    // Whether `)` is held, or nothing is held and it stands at the cursor.
-    pub fn closes(self, text: &[u8]) -> Closes
+    // The place behind `)`, where it is held, or nothing is held and it stands at the cursor.
+    pub fn closes(self, text: &[u8]) -> Option<usize>
         ensures { result ≡ closes_at text.now self }
     {
-        let at = self.at;
-        let held = self.held;
-        match held {
+        match self.held {
             Held::Nothing => {
                 if self.stands_at(text, b')') {
-                    Closes {
-                        close: true,
-                        at: at + 1,
-                    }
+                    Some(self.at + 1)
                 } else {
-                    Closes { close: false, at }
+                    None
                 }
             }
-            Held::NoToken(_) => Closes { close: false, at },
-            Held::BadNumber(_) => Closes { close: false, at },
-            Held::Is(_, token) => Closes {
-                close: is_close(token),
-                at,
-            },
+            Held::NoToken(_) | Held::BadNumber(_) => None,
+            Held::Is(_, token) => {
+                if is_close(token) {
+                    Some(self.at)
+                } else {
+                    None
+                }
+            }
         }
     }
 }

@@ -1,11 +1,10 @@
 -- `answers::closing` meets its contract: the node ends behind the `)` that is held or stands right there, or else behind the one that was taken.
-use borrow.Author.Tests.{not-false}
-use mathlib.Core.Path.{sym, ap, ◌∙◌}
+use Rattle.std.proofs.Common.{sym, ap, ◌∙◌}
 use Rattle.sorts.specs.declared.Taken.{Taken}
 use Rattle.sorts.proofs.Tokens.{closes_sort, closes_at_law}
 use Rattle.answers.proofs.Parts.{close_yes, close_no}
 use Rattle.answers.proofs.closing.Goals as goal
-use Rattle.answers.proofs.closing.Goals.{then-not-closes+else-token-ne-CLOSE, else-not-closes}
+use Rattle.answers.proofs.closing.Goals.{in-Some, in-None+else-token-ne-CLOSE}
 
 pub returns-then-token-ne-CLOSE : goal.returns-then-token-ne-CLOSE
 returns-then-token-ne-CLOSE c =
@@ -14,9 +13,8 @@ returns-then-token-ne-CLOSE c =
 
 pub returns : goal.returns
 returns c =
-    let e = c.closes-closes.ensures in
     let a = c.ended.ensures in
-    elim c.if-not-closes.branch [
-      | then-not-closes+else-token-ne-CLOSE w ↦ close_yes _ _ _ _ _ (rw w.take-token.ensures at w.if-token-ne-CLOSE.false) (w.at-is ∙ ap (λ (t : Taken). t.at) w.take-token.ensures) a.0 a.1
-      | else-not-closes w ↦ (let y = not-false _ w.if-not-closes.false in close_yes _ _ _ _ _ (closes_sort _ _ e y) (w.at-is ∙ sym (closes_at_law _ _ e y)) a.0 a.1)
+    elim c.match-closes.branch [
+      | in-Some w ↦ (let e = sym w.in-Some.ensures in close_yes _ _ _ _ _ (closes_sort _ _ _ e) (w.at-is ∙ sym (closes_at_law _ _ _ e)) a.0 a.1)
+      | in-None+else-token-ne-CLOSE w ↦ close_yes _ _ _ _ _ (rw w.take-token.ensures at w.if-token-ne-CLOSE.false) (w.at-is ∙ ap (λ (t : Taken). t.at) w.take-token.ensures) a.0 a.1
     ]
