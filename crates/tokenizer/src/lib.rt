@@ -164,7 +164,11 @@ impl Cursor {
         let comma = is_comma(step.found);
         Passed {
             comma,
-            next: if comma { Cursor::new(step.next.at) } else { step.next },
+            next: if comma {
+                Cursor::new(step.next.at)
+            } else {
+                step.next
+            },
         }
     }
 
@@ -186,7 +190,11 @@ impl Cursor {
         PassedOpen {
             opens,
             place: place_in(step.found),
-            next: if opens { Cursor::new(step.next.at) } else { step.next },
+            next: if opens {
+                Cursor::new(step.next.at)
+            } else {
+                step.next
+            },
         }
     }
 
@@ -203,13 +211,7 @@ impl Cursor {
                 }
             }
             Held::NoToken(_) | Held::BadNumber(_) => None,
-            Held::Is(_, token) => {
-                if is_close(token) {
-                    Some(self.at)
-                } else {
-                    None
-                }
-            }
+            Held::Is(_, token) => { if is_close(token) { Some(self.at) } else { None } }
         }
     }
 }
