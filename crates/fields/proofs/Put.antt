@@ -88,6 +88,11 @@ module _ (out content counted : List ℕ) (at tag : ℕ) (fits : at + head_lengt
   pub field_one : length content ≡ 1 → set headed (at + head_length) (get_or content 0 0) ≡ sets out at (field tag content)
   field_one e = sets_one content headed (at + head_length) e ∙ field_all
 
+  pub field_copied : {copied : List ℕ} → copied ≡ content → put_mid (at + head_length) (at + head_length + length content - (at + head_length)) headed copied ≡ sets out at (field tag content)
+  field_copied {copied} e =
+      let l = headed_length in
+      rw e (part_put headed content (at + head_length) (at + head_length + length content) (omega arith) (omega arith) (omega arith) ∙ field_all)
+
 -- ---- two bytes and four, put two at a time
 pub two_put : (l : List ℕ) (n : ℕ) → length l ≡ 2 → {r : List ℕ} → r ≡ set (set l 0 (n / byte % byte)) 1 (n % byte) → r ≡ count_bytes (length l) n
 unfolding count_bytes

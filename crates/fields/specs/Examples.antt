@@ -1,7 +1,7 @@
 -- Worked examples of this crate's definitions, by computation.
 use Rattle.std.specs.Prelude.{◌≡◌, refl, true, false, List, [], ◌∷◌, map, ℕ}
 use Rattle.fields.specs.Counts.{count_after, count_in, count_bytes, is_count}
-use Rattle.fields.specs.declared.Found.TheVariants.{Whole, Faulty}
+use Rattle.std.specs.Prelude.{Some, None}
 use Rattle.fields.specs.Fields.{field, length_in, content_end, content_in, is_field, field_at, is_sized}
 
 all : ℕ
@@ -33,7 +33,7 @@ unfolding all two
 told = (refl, refl, refl, refl)
 
 -- at its tag it is whole; of another tag, inside, and where nothing is left there is none
-found : (map (field_at 3 two) (0 ∷ 1 ∷ 5 ∷ 8 ∷ 9 ∷ []) ≡ Whole 5 ∷ Faulty ∷ Whole 9 ∷ Faulty ∷ Faulty ∷ []) × (field_at 2 two 0 ≡ Faulty)
+found : (map (field_at 3 two) (0 ∷ 1 ∷ 5 ∷ 8 ∷ 9 ∷ []) ≡ Some 5 ∷ None ∷ Some 9 ∷ None ∷ None ∷ []) × (field_at 2 two 0 ≡ None)
 unfolding all two
 found = (refl, refl)
 

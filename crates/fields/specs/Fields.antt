@@ -1,8 +1,6 @@
 -- Fields (document 02, 2026-01): "one-byte tag, two-byte big-endian length, content".
-use Rattle.std.specs.Prelude.{Bool, cond, ◌&&◌, List, ◌∷◌, ◌++◌, ℕ, ◌+◌, eqb, leb, length, get_or, take, drop}
+use Rattle.std.specs.Prelude.{Bool, cond, Option, Some, None, ◌&&◌, List, ◌∷◌, ◌++◌, ℕ, ◌+◌, eqb, leb, length, get_or, take, drop}
 use Rattle.fields.specs.Counts.{count_in, count_bytes}
-use Rattle.fields.specs.declared.Found.{Found}
-use Rattle.fields.specs.declared.Found.TheVariants.{Whole, Faulty}
 
 -- "two-byte [..] length"
 abbrev pub length_width : ℕ
@@ -34,8 +32,8 @@ content_in bytes at = take (length_in bytes at) (drop (at + head_length) bytes)
 unfoldable pub is_field : ℕ → List ℕ → ℕ → Bool
 is_field tag bytes at = eqb (get_or bytes at 0) tag && leb (content_end bytes at) (length bytes)
 
-unfoldable pub field_at : ℕ → List ℕ → ℕ → Found
-field_at tag bytes at = cond (is_field tag bytes at) (Whole (content_end bytes at)) Faulty
+unfoldable pub field_at : ℕ → List ℕ → ℕ → Option ℕ
+field_at tag bytes at = cond (is_field tag bytes at) (Some (content_end bytes at)) None
 
 -- and its length is this one
 unfoldable pub is_sized : ℕ → ℕ → List ℕ → ℕ → Bool

@@ -28,13 +28,6 @@ const FOUR: usize = 4;
 // What the last three bytes of a count can say: a fourth one fits beside them.
 const THREE_BYTES: u32 = 16_777_216;
 
-// Where a field's content ends; or that no such field is there.
-#[derive(Clone, Copy)]
-pub enum Found {
-    Whole(usize),
-    Faulty,
-}
-
 // What the two bytes from `at` on say.
 fn two_at(bytes: &[u8], at: usize) -> u32
     requires { at + 2 ≤ length bytes.now }
@@ -56,10 +49,8 @@ pub fn count_in(bytes: &[u8]) -> u32
         return two_at(bytes, 0) * TWO_BYTES + two_at(bytes, TWO);
     }
     let mut count = 0;
-    let mut i = 0;
-    while i < len {
-        count = (count % THREE_BYTES) * BYTE + (bytes[i] as u32);
-        i += 1;
+    for b in bytes {
+        count = (count % THREE_BYTES) * BYTE + (*b as u32);
     }
     count
 }
@@ -88,47 +79,39 @@ pub fn put_count(bytes: &mut [u8], count: u32)
         return;
     }
     let mut rest = count;
-    let mut i = len;
-    while 0 < i {
-        i -= 1;
+    for i in (0..len).rev() {
         bytes[i] = (rest % BYTE) as u8;
         rest /= BYTE;
     }
 }
 
-// The field at a place, if it has this tag and lies in the bytes whole.
-pub fn field_at(bytes: &[u8], at: usize, tag: u8) -> Found
+// Where the content ends of the field at a place, if one with this tag lies in the bytes whole.
+pub fn field_at(bytes: &[u8], at: usize, tag: u8) -> Option<usize>
     ensures { result ≡ field_at tag bytes.now at }
 {
     let len = bytes.len();
     if len < HEAD {
-        return Found::Faulty;
+        return None;
     }
     if len - HEAD < at {
-        return Found::Faulty;
+        return None;
     }
     let start = at + HEAD;
     let length = count_in(&bytes[at + 1..start]) as usize;
     if (bytes[at] != tag) | (len - start < length) {
-        return Found::Faulty;
+        return None;
     }
-    Found::Whole(start + length)
+    Some(start + length)
 }
 
 // Whether a field of this tag and this length lies at a place, whole.
 pub fn is_sized(bytes: &[u8], at: usize, tag: u8, length: usize) -> bool
     ensures { result ≡ is_sized tag length bytes.now at }
 {
-    let len = bytes.len();
-    if len < HEAD {
-        return false;
+    match field_at(bytes, at, tag) {
+        Some(end) => end - at - HEAD == length,
+        None => false,
     }
-    if len - HEAD < at {
-        return false;
-    }
-    let start = at + HEAD;
-    let said = count_in(&bytes[at + 1..start]) as usize;
-    (bytes[at] == tag) & (said == length) & (length <= len - start)
 }
 
 // Puts a field, or nothing. Of a content that is too long the length says the lowest two bytes.
@@ -150,22 +133,17 @@ pub fn put_field(out: &mut [u8], p: Pen, tag: u8, content: &[u8]) -> Pen
         return Pen { at, full: true };
     }
     let start = at + HEAD;
+    let end = start + len;
     out[at] = tag;
     put_count(&mut out[at + 1..start], (len % LENGTHS) as u32);
+    // A content of one byte needs no call that copies.
     if len == 1 {
         out[start] = content[0];
-        return Pen {
-            at: start + 1,
-            full: false,
-        };
-    }
-    let mut i = 0;
-    while i < len {
-        out[start + i] = content[i];
-        i += 1;
+    } else {
+        out[start..end].copy_from_slice(content);
     }
     Pen {
-        at: start + i,
+        at: end,
         full: false,
     }
 }

@@ -28,7 +28,7 @@ use Rattle.fields.specs.Fields.{head_length, longest, field, length_in, content_
 use Rattle.fields.proofs.Counts.{bytes_length, count_of_bytes}
 use Rattle.fields.proofs.Fields.{There, there_is, has_room, field_sized}
 use Rattle.stored_form.specs.declared.Version.{Version}
-use Rattle.stored_form.specs.declared.Head.TheVariants as head
+use Rattle.std.specs.Prelude.{Ok}
 use Rattle.stored_form.specs.Form.{Known, head_tag, node_tag, number_tag, head_size, node_size, head_field, node_field, number_field, stored_rows, first_node, stored_bytes, fits_tree}
 use Rattle.stored_form.specs.Reading.{version_at, is_other_version, head_in, whole, before, row_told, node_after, nodes_from, span_told, numbers_from, roomed, checked, reading_of}
 use Rattle.stored_form.proofs.Fits.{FitsEach, fits_each}
@@ -145,7 +145,7 @@ module _ (v : Version) (known : Known v) (n m : ℕ) (bytes rest : List ℕ) (e 
   unfolding is_other_version
   this_version = rw (eq-eqb (get_or bytes version_at 0) v.number (first_at_law bytes 3 (stands head_there))) (none_of (ltb version_at (length bytes)) (eqb (get_or bytes 0 0) head_tag))
 
-  pub head_back : n ≤ v.largest → m ≤ v.largest → length bytes ≤ v.limit → head_in v bytes ≡ head.Told (record { nodes = n; numbers = m })
+  pub head_back : n ≤ v.largest → m ≤ v.largest → length bytes ≤ v.limit → head_in v bytes ≡ Ok (record { nodes = n; numbers = m })
   unfolding head_in
   head_back hn hm l =
       let s = field_sized head_tag (head_size v.width) bytes 0 head_there.field (head_there.length ∙ head_size_law) in

@@ -1,5 +1,5 @@
 -- What reading any bytes as a stored tree comes to (document 02, 2026-01), over any version of the form.
-use Rattle.std.specs.Prelude.{◌≡◌, Bool, cond, not, ◌&&◌, List, [], ◌∷◌, ℕ, zero, suc, ◌+◌, eqb, ltb, length, get_or, take, drop}
+use Rattle.std.specs.Prelude.{◌≡◌, Bool, cond, not, ◌&&◌, Result, Ok, Err, List, [], ◌∷◌, ℕ, zero, suc, ◌+◌, eqb, ltb, length, get_or, take, drop}
 use Rattle.refusals.specs.Refusals.{text_too_long, no_node_row, no_number_row, ill_formed_store, faulty_field, unknown_version}
 use Rattle.store.specs.Rows.{Row, row, Span, span_of, flat_rows, flat_spans}
 use Rattle.store.specs.Answers.{Outcome, filled, refused}
@@ -8,9 +8,16 @@ use Rattle.fields.specs.Counts.{count_in}
 use Rattle.fields.specs.Fields.{head_length, length_in, content_end, is_field, is_sized}
 use Rattle.stored_form.specs.declared.Version.{Version}
 use Rattle.stored_form.specs.declared.Counts.{Counts}
-use Rattle.stored_form.specs.declared.Head.{Head}
-use Rattle.stored_form.specs.declared.Head.TheVariants as head
+use Rattle.stored_form.specs.declared.Refusal.{Refusal}
+use Rattle.stored_form.specs.declared.Seen.{Seen}
 use Rattle.stored_form.specs.Form.{head_tag, node_tag, number_tag, head_size, node_size, first_node, node_place}
+
+-- ---- refusals, and what a run of whole fields comes to
+abbrev pub refusal_at : {X : Type 0} → ℕ → ℕ → Result X Refusal
+refusal_at number place = Err (record { number = number; place = place })
+
+abbrev pub seen : Bool → ℕ → Result Seen Refusal
+seen well end = Ok (record { well = well; end = end })
 
 -- ---- the head
 abbrev pub version_at : ℕ
@@ -33,12 +40,12 @@ abbrev pub counts_read : ℕ → List ℕ → Counts
 counts_read w bytes = record { nodes = nodes_told w bytes; numbers = numbers_told w bytes }
 
 -- "1 over 1,048,576 bytes (place 1,048,576); 26 [..]; 25 a field cut, missing, extra or of wrong tag or length, at its tag"
-unfoldable pub head_in : Version → List ℕ → Head
+unfoldable pub head_in : Version → List ℕ → Result Counts Refusal
 head_in v bytes =
-    cond (ltb v.limit (length bytes)) (head.Refused text_too_long v.limit)
-    (cond (is_other_version v bytes) (head.Refused unknown_version version_at)
-    (cond (is_sized head_tag (head_size v.width) bytes 0) (head.Told (counts_read v.width bytes))
-    (head.Refused faulty_field 0)))
+    cond (ltb v.limit (length bytes)) (refusal_at text_too_long v.limit)
+    (cond (is_other_version v bytes) (refusal_at unknown_version version_at)
+    (cond (is_sized head_tag (head_size v.width) bytes 0) (Ok (counts_read v.width bytes))
+    (refusal_at faulty_field 0)))
 
 -- ---- fields one after the other: the place of the first that is faulty, or what they hold and the place after them
 pub data Run (X : Type 0) : Type 0 where
@@ -104,9 +111,9 @@ after_nodes w N M m bytes (faulty at) = refused faulty_field at
 after_nodes w N M m bytes (whole rs middle) = after_numbers w N M bytes rs middle (numbers_from bytes middle m)
 
 -- ---- reading
-abbrev pub after_head : ℕ → ℕ → ℕ → List ℕ → Head → Outcome
-after_head w N M bytes (head.Refused number place) = refused number place
-after_head w N M bytes (head.Told c) = after_nodes w N M c.numbers bytes (nodes_from w bytes (first_node w) c.nodes)
+abbrev pub after_head : ℕ → ℕ → ℕ → List ℕ → Result Counts Refusal → Outcome
+after_head w N M bytes (Err r) = refused r.number r.place
+after_head w N M bytes (Ok c) = after_nodes w N M c.numbers bytes (nodes_from w bytes (first_node w) c.nodes)
 
 unfoldable pub reading_of : Version → ℕ → ℕ → List ℕ → Outcome
 reading_of v N M bytes = after_head v.width N M bytes (head_in v bytes)

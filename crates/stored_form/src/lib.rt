@@ -35,18 +35,18 @@ pub struct Counts {
     pub numbers: usize,
 }
 
-// What the head comes to: counts, or a refusal's number and place.
+// A refusal of the reader: its number and its place.
 #[derive(Clone, Copy)]
-pub enum Head {
-    Told(Counts),
-    Refused(u32, usize),
+pub struct Refusal {
+    pub number: u32,
+    pub place: usize,
 }
 
-// What a run of fields comes to: the place of the first that is faulty; or whether what they hold is well formed, and the place after them.
+// What a run of whole fields comes to: whether what they hold is well formed, and the place after them.
 #[derive(Clone, Copy)]
-pub enum Seen {
-    Faulty(usize),
-    Whole(bool, usize),
+pub struct Seen {
+    pub well: bool,
+    pub end: usize,
 }
 
 pub fn version_of(edition: Edition) -> Version

@@ -3,7 +3,7 @@
 use mathlib.Core.Path.{◌≡◌, refl, sym, ◌∙◌}
 use mathlib.Core.Bool.{Bool, true, false, cond}
 use mathlib.Core.List.{List, [], ◌∷◌, ◌++◌}
-use Prim.Native.Nat.{ℕ, ◌+◌, ◌-◌, ◌*◌, ◌≤◌, ◌<◌}
+use Prim.Native.Nat.{ℕ, min, ◌+◌, ◌-◌, ◌*◌, ◌≤◌, ◌<◌}
 use native.Mathlib.Omega.{arith}
 use native.Mathlib.Numerals.{add-one}
 use lib.Dec.{ltb}
@@ -20,21 +20,18 @@ limit_in k h = get_or-append (replicate 16 2) (replicate 16 0) 0 k h ∙ get_or-
 limit_behind : (k : ℕ) → k < 16 → get_or twos_then_none (16 + k) 0 ≡ 0
 limit_behind k h = get_or-append-add (replicate 16 2) (replicate 16 0) k 0 ∙ get_or-replicate 16 k 0 0 h
 
-abbrev pub lesser : ℕ → ℕ → ℕ
-lesser a b = cond (ltb a b) a b
-
-own_weight : (b : ℕ) → lesser (weight b) 2 ≡ weight b
+own_weight : (b : ℕ) → min (weight b) 2 ≡ weight b
 own_weight b = go (is_digit b) (is_point b)
   where
-    go : (d p : Bool) → lesser (cond d 0 (cond p 1 2)) 2 ≡ cond d 0 (cond p 1 2)
+    go : (d p : Bool) → min (cond d 0 (cond p 1 2)) 2 ≡ cond d 0 (cond p 1 2)
     go true p = refl
     go false true = refl
     go false false = refl
 
-no_weight : (b : ℕ) → lesser (weight b) 0 ≡ 0
+no_weight : (b : ℕ) → min (weight b) 0 ≡ 0
 no_weight b = go (is_digit b) (is_point b)
   where
-    go : (d p : Bool) → lesser (cond d 0 (cond p 1 2)) 0 ≡ 0
+    go : (d p : Bool) → min (cond d 0 (cond p 1 2)) 0 ≡ 0
     go true p = refl
     go false true = refl
     go false false = refl
@@ -79,7 +76,7 @@ module _ (text : List ℕ) (from len i : ℕ) (l : i < 16) (short : len ≤ 16) 
   w_length : length w ≡ len
   w_length = length-take-le len (drop from text) (omega (arith, length-drop from text))
 
-  inside : i < len → Adds text from len i (lesser (weight (get_or text (from + i) 0)) (get_or twos_then_none (16 - len + i) 0))
+  inside : i < len → Adds text from len i (min (weight (get_or text (from + i) 0)) (get_or twos_then_none (16 - len + i) 0))
   inside h =
       let b = get_or text (from + i) 0 in
       let limit : get_or twos_then_none (16 - len + i) 0 ≡ 2 = limit_in (16 - len + i) (omega arith) in
@@ -87,7 +84,7 @@ module _ (text : List ℕ) (from len i : ℕ) (l : i < 16) (short : len ≤ 16) 
       let more : take (i + 1) w ≡ take i w ++ (b ∷ []) = rw (add-one i, sym last) (take-suc w i 0 (omega (arith, w_length))) in
       rw (limit, own_weight b) (record { few = two_at_most b; is = rw more (weigh_append (take i w) (b ∷ []) ∙ rw (weigh_one b)) })
 
-  behind : len ≤ i → Adds text from len i (lesser (weight (get_or text (from + i) 0)) (get_or twos_then_none (16 - len + i) 0))
+  behind : len ≤ i → Adds text from len i (min (weight (get_or text (from + i) 0)) (get_or twos_then_none (16 - len + i) 0))
   behind h =
       let b = get_or text (from + i) 0 in
       let place : 16 - len + i ≡ 16 + (i - len) = omega arith in
@@ -96,10 +93,10 @@ module _ (text : List ℕ) (from len i : ℕ) (l : i < 16) (short : len ≤ 16) 
       let later : take (i + 1) w ≡ w = take_all (i + 1) w (omega (arith, w_length)) in
       rw (place, limit, no_weight b) (record { few = omega arith; is = rw (now, later) (omega arith) })
 
-  pub adds : Adds text from len i (lesser (weight (get_or text (from + i) 0)) (get_or twos_then_none (16 - len + i) 0))
+  pub adds : Adds text from len i (min (weight (get_or text (from + i) 0)) (get_or twos_then_none (16 - len + i) 0))
   adds = go (ltb i len) refl
     where
-      go : (t : Bool) → ltb i len ≡ t → Adds text from len i (lesser (weight (get_or text (from + i) 0)) (get_or twos_then_none (16 - len + i) 0))
+      go : (t : Bool) → ltb i len ≡ t → Adds text from len i (min (weight (get_or text (from + i) 0)) (get_or twos_then_none (16 - len + i) 0))
       go true e = inside (ltb-true i len e)
       go false e = behind (ltb-false i len e)
 

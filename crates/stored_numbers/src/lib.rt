@@ -7,10 +7,11 @@ ghost use Rattle.number.specs.Lexeme.{is_lexeme, is_plain};
 ghost use Rattle.stored_numbers.specs.Weights.{weight, weigh, sign_width, twos_then_none};
 ghost use Rattle.stored_numbers.specs.Looks.{numbers_seen};
 
-use fields::{Found, HEAD};
+use fields::HEAD;
 use number::is_lexeme;
+use refusals::FAULTY_FIELD;
 use scan::{is_digit, is_sign};
-use stored_form::{NUMBER_TAG, Seen};
+use stored_form::{NUMBER_TAG, Refusal, Seen};
 
 // How many bytes are looked at.
 const WINDOW: usize = 16;
@@ -35,12 +36,6 @@ fn weight_of(b: u8) -> u8
     }
 }
 
-fn lesser(a: u8, b: u8) -> u8
-    ensures { result ≡ cond (ltb a b) a b }
-{
-    if a < b { a } else { b }
-}
-
 // What the `len` bytes from `from` on weigh together. All sixteen are looked at, but those behind them weigh nothing: the limits, begun so far before their
 // middle, have as many twos as there are bytes to weigh.
 fn weight_in(text: &[u8], from: usize, len: usize, limits: &[u8; TWO_WINDOWS]) -> u8
@@ -48,12 +43,9 @@ fn weight_in(text: &[u8], from: usize, len: usize, limits: &[u8; TWO_WINDOWS]) -
     ensures { result ≡ weigh (take len (drop from text.now)) }
 {
     let mut sum: u8 = 0;
-    let mut i = 0;
-    while i < WINDOW {
-        let own = weight_of(text[from + i]);
+    for i in 0..WINDOW {
         let limit = limits[WINDOW - len + i];
-        sum += lesser(own, limit);
-        i += 1;
+        sum += weight_of(text[from + i]).min(limit);
     }
     sum
 }
@@ -62,7 +54,7 @@ fn weight_in(text: &[u8], from: usize, len: usize, limits: &[u8; TWO_WINDOWS]) -
 fn sign_width(b: u8) -> usize
     ensures { result ≡ sign_width b }
 {
-    if is_sign(b) { 1 } else { 0 }
+    is_sign(b) as usize
 }
 
 // Whether the first `len` bytes of a text are told to be digits with at most one point, and perhaps a sign. Of those that aren't told some are too.
@@ -103,25 +95,31 @@ fn front_is_lexeme(text: &[u8], len: usize, limits: &[u8; TWO_WINDOWS]) -> bool
 }
 
 // The `count` number fields from `first` on, after which nothing may follow: whether each is a lexeme.
-pub fn look_at_numbers(bytes: &[u8], first: usize, count: usize) -> Seen
+pub fn look_at_numbers(bytes: &[u8], first: usize, count: usize) -> Result<Seen, Refusal>
     ensures { result ≡ numbers_seen bytes.now first count }
 {
     let limits = LIMITS;
     let mut good = true;
     let mut at = first;
-    let mut i = 0;
-    while i < count {
-        let found = fields::field_at(bytes, at, NUMBER_TAG);
-        let Found::Whole(end) = found else {
-            return Seen::Faulty(at);
+    for _ in 0..count {
+        let Some(end) = fields::field_at(bytes, at, NUMBER_TAG) else {
+            return Err(Refusal {
+                number: FAULTY_FIELD,
+                place: at,
+            });
         };
         let start = at + HEAD;
-        good = good & front_is_lexeme(&bytes[start..], end - start, &limits);
+        good &= front_is_lexeme(&bytes[start..], end - start, &limits);
         at = end;
-        i += 1;
     }
     if at < bytes.len() {
-        return Seen::Faulty(at);
+        return Err(Refusal {
+            number: FAULTY_FIELD,
+            place: at,
+        });
     }
-    Seen::Whole(good, at)
+    Ok(Seen {
+        well: good,
+        end: at,
+    })
 }

@@ -27,9 +27,9 @@ use Rattle.fields.proofs.Counts.{all_take, all_drop, count_bound, bytes_of_count
 use Rattle.fields.proofs.Fields.{is_there, has_tag, has_room, sized_field}
 use Rattle.stored_form.specs.declared.Version.{Version}
 use Rattle.stored_form.specs.declared.Counts.{Counts}
-use Rattle.stored_form.specs.declared.Head.TheVariants as head
+use Rattle.std.specs.Prelude.{Ok}
 use Rattle.stored_form.specs.Form.{Known, head_tag, node_tag, number_tag, head_size, node_size, head_field, node_field, number_field, stored_rows, first_node, stored_bytes, fits_tree}
-use Rattle.stored_form.specs.Reading.{version_at, is_other_version, nodes_told, numbers_told, counts_read, head_in, whole, row_told, node_after, nodes_from, span_told, numbers_from, reading_of}
+use Rattle.stored_form.specs.Reading.{refusal_at, version_at, is_other_version, nodes_told, numbers_told, counts_read, head_in, whole, row_told, node_after, nodes_from, span_told, numbers_from, reading_of}
 use Rattle.stored_form.proofs.Runs.{whole_one, no_field, first, fields_count}
 use Rattle.stored_form.proofs.Fits.{FitsEach, each_fits}
 use Rattle.stored_reading.proofs.Accepts.{accepts}
@@ -140,12 +140,12 @@ module _ (v : Version) (known : Known v) (bytes : List ℕ) (all : All IsByte by
           few_numbers = omega (arith, b, known.counts);
         }
 
-  head_told : (c : Counts) → head_in v bytes ≡ head.Told c → HeadStored c
+  head_told : (c : Counts) → head_in v bytes ≡ Ok c → HeadStored c
   unfolding head_in
   head_told c e = go (ltb v.limit (length bytes)) refl (is_other_version v bytes) refl (is_sized head_tag (head_size v.width) bytes 0) refl e
     where
       go : (a : Bool) → ltb v.limit (length bytes) ≡ a → (b : Bool) → is_other_version v bytes ≡ b → (s : Bool) → is_sized head_tag (head_size v.width) bytes 0 ≡ s
-          → cond a (head.Refused 1 v.limit) (cond b (head.Refused 26 version_at) (cond s (head.Told (counts_read v.width bytes)) (head.Refused 25 0))) ≡ head.Told c → HeadStored c
+          → cond a (refusal_at 1 v.limit) (cond b (refusal_at 26 version_at) (cond s (Ok (counts_read v.width bytes)) (refusal_at 25 0))) ≡ Ok c → HeadStored c
       go true ea b eb s es e = let z : ◌≡◌ {A = ℕ} 0 1 = cc in absurd (omega arith)
       go false ea true eb s es e = let z : ◌≡◌ {A = ℕ} 0 1 = cc in absurd (omega arith)
       go false ea false eb false es e = let z : ◌≡◌ {A = ℕ} 0 1 = cc in absurd (omega arith)

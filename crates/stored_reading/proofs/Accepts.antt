@@ -14,15 +14,15 @@ use Rattle.shape.specs.Store.{well_formed}
 use Rattle.fields.specs.Fields.{is_sized}
 use Rattle.stored_form.specs.declared.Version.{Version}
 use Rattle.stored_form.specs.declared.Counts.{Counts}
-use Rattle.stored_form.specs.declared.Head.{Head}
-use Rattle.stored_form.specs.declared.Head.TheVariants as head
+use Rattle.std.specs.Prelude.{Result, Ok, Err}
+use Rattle.stored_form.specs.declared.Refusal.{Refusal}
 use Rattle.stored_form.specs.Form.{head_tag, head_size, first_node, node_place}
-use Rattle.stored_form.specs.Reading.{version_at, is_other_version, counts_read, head_in, Run, faulty, whole, nodes_from, numbers_from, place_after, roomed, checked, after_nodes, after_numbers, after_head, reading_of}
+use Rattle.stored_form.specs.Reading.{refusal_at, version_at, is_other_version, counts_read, head_in, Run, faulty, whole, nodes_from, numbers_from, place_after, roomed, checked, after_nodes, after_numbers, after_head, reading_of}
 
 -- how bytes come to be read to rows and spans
 pub record Accepts (v : Version) (N M : ℕ) (bytes : List ℕ) (rs : List Row) (ss : List Span) : Type 0 where
   pub counts : Counts
-  pub told : head_in v bytes ≡ head.Told counts
+  pub told : head_in v bytes ≡ Ok counts
   pub middle : ℕ
   pub nodes : nodes_from v.width bytes (first_node v.width) counts.nodes ≡ whole rs middle
   pub end : ℕ
@@ -37,7 +37,7 @@ module _ (v : Version) (N M : ℕ) (bytes : List ℕ) where
   ComesTo (filled rs ss) = Accepts v N M bytes rs ss
   ComesTo (refused number place) = 1 ≤ number
 
-  module _ (c : Counts) (told : head_in v bytes ≡ head.Told c) where
+  module _ (c : Counts) (told : head_in v bytes ≡ Ok c) where
     in_room : (rs : List Row) (middle : ℕ) → nodes_from v.width bytes (first_node v.width) c.nodes ≡ whole rs middle → (ss : List Span) (end : ℕ) → numbers_from bytes middle c.numbers ≡ whole ss end →
         (a : Bool) → ltb end (length bytes) ≡ a → (w : Bool) → well_formed bytes (flat_rows rs) (flat_spans ss) ≡ w → (n : Bool) → ltb N (length rs) ≡ n → (m : Bool) → ltb M (length ss) ≡ m →
         ComesTo (cond a (refused 25 end) (cond w (cond n (refused 3 (node_place v.width N)) (cond m (refused 4 (place_after bytes middle M)) (filled rs ss))) (refused 22 0)))
@@ -57,23 +57,23 @@ module _ (v : Version) (N M : ℕ) (bytes : List ℕ) where
     after_nodes_law (faulty at) en = omega arith
     after_nodes_law (whole rs middle) en = after_numbers_law rs middle en (numbers_from bytes middle c.numbers) refl
 
-  head_number : {number place : ℕ} → head_in v bytes ≡ head.Refused number place → 1 ≤ number
+  head_number : {r : Refusal} → head_in v bytes ≡ Err r → 1 ≤ r.number
   unfolding head_in
-  head_number {number} {place} e = go (ltb v.limit (length bytes)) (is_other_version v bytes) (is_sized head_tag (head_size v.width) bytes 0) e
+  head_number {r} e = go (ltb v.limit (length bytes)) (is_other_version v bytes) (is_sized head_tag (head_size v.width) bytes 0) e
     where
-      go : (a b s : Bool) → cond a (head.Refused 1 v.limit) (cond b (head.Refused 26 version_at) (cond s (head.Told (counts_read v.width bytes)) (head.Refused 25 0))) ≡ head.Refused number place → 1 ≤ number
-      go true b s e = let z : 1 ≡ number = cc in omega arith
-      go false true s e = let z : 26 ≡ number = cc in omega arith
+      go : (a b s : Bool) → cond a (refusal_at 1 v.limit) (cond b (refusal_at 26 version_at) (cond s (Ok (counts_read v.width bytes)) (refusal_at 25 0))) ≡ Err r → 1 ≤ r.number
+      go true b s e = let z : 1 ≡ r.number = cc in omega arith
+      go false true s e = let z : 26 ≡ r.number = cc in omega arith
       go false false true e = let z : ◌≡◌ {A = ℕ} 0 1 = cc in absurd (omega arith)
-      go false false false e = let z : 25 ≡ number = cc in omega arith
+      go false false false e = let z : 25 ≡ r.number = cc in omega arith
 
   comes_to : ComesTo (reading_of v N M bytes)
   unfolding reading_of
   comes_to = go (head_in v bytes) refl
     where
-      go : (h : Head) → head_in v bytes ≡ h → ComesTo (after_head v.width N M bytes h)
-      go (head.Refused number place) e = head_number e
-      go (head.Told c) e = after_nodes_law c e (nodes_from v.width bytes (first_node v.width) c.nodes) refl
+      go : (h : Result Counts Refusal) → head_in v bytes ≡ h → ComesTo (after_head v.width N M bytes h)
+      go (Err r) e = head_number e
+      go (Ok c) e = after_nodes_law c e (nodes_from v.width bytes (first_node v.width) c.nodes) refl
 
   pub accepts : (rs : List Row) (ss : List Span) → reading_of v N M bytes ≡ filled rs ss → Accepts v N M bytes rs ss
   accepts rs ss e = subst ComesTo e comes_to

@@ -21,16 +21,18 @@ use Rattle.fields.proofs.Counts.{count_read}
 use Rattle.fields.proofs.Fields.{has_room, sized_field}
 use Rattle.stored_form.specs.Form.{node_tag, node_size}
 use Rattle.stored_form.specs.declared.Seen.{Seen}
-use Rattle.stored_form.specs.declared.Seen.TheVariants.{Faulty, Whole}
-use Rattle.stored_form.specs.Reading.{Run, faulty, whole, before, row_told, node_after, nodes_from}
+use Rattle.std.specs.Prelude.{Result}
+use Rattle.refusals.specs.Refusals.{faulty_field}
+use Rattle.stored_form.specs.declared.Refusal.{Refusal}
+use Rattle.stored_form.specs.Reading.{refusal_at, seen, Run, faulty, whole, before, row_told, node_after, nodes_from}
 use Rattle.stored_reading.specs.Looks.{nodes_well, nodes_seen}
 use Rattle.stored_form.proofs.Runs.{turn_on, turn_off, turn_none}
 
 -- ---- node fields
 -- what those still to come make of it, where all so far were met by the walk or not
-abbrev pub nodes_on : ℕ → Bool → List Frame → Walk → Run Row → Seen
-nodes_on numbers well s w (faulty at) = Faulty at
-nodes_on numbers well s w (whole rs at) = Whole (well && is_some (ahead_by numbers s w rs)) at
+abbrev pub nodes_on : ℕ → Bool → List Frame → Walk → Run Row → Result Seen Refusal
+nodes_on numbers well s w (faulty at) = refusal_at faulty_field at
+nodes_on numbers well s w (whole rs at) = seen (well && is_some (ahead_by numbers s w rs)) at
 
 nodes_all : (numbers : ℕ) {s : List Frame} {w : Walk} → Begun s w → (r : Run Row) → nodes_on numbers true s w r ≡ nodes_well numbers r
 nodes_all numbers b (faulty at) = refl
@@ -44,7 +46,7 @@ nodes_none numbers s s' w w' x (whole rs at) = refl
 module _ (numbers : ℕ) (s : List Frame) (w : Walk) (x : Row) where
   nodes_to : {s' : List Frame} {w' : Walk} → Gone numbers s w x s' w' → (r : Run Row) → nodes_on numbers true s' w' r ≡ nodes_on numbers true s w (before x r)
   nodes_to g (faulty at) = refl
-  nodes_to g (whole rs at) = ap (λ b. Whole b at) (sym (g.same rs))
+  nodes_to g (whole rs at) = ap (λ b. seen b at) (sym (g.same rs))
 
   nodes_ill : (s' : List Frame) (w' : Walk) → ((rs : List Row) → ahead_by numbers s w (x ∷ rs) ≡ none) → (r : Run Row) → nodes_on numbers false s' w' r ≡ nodes_on numbers true s w (before x r)
   nodes_ill s' w' g (faulty at) = refl
@@ -66,7 +68,7 @@ node_room_law width bytes at h = let b = sized_field node_tag (node_size width) 
 
 module _ {width : ℕ} {bytes : List ℕ} {start count numbers : ℕ} {s : List Frame} {w : Walk} {well : Bool} {at i : ℕ} (l : LookingNodes width bytes start count numbers s w well at i) where
   module _ (h : i < count) where
-    pub node_faulty : is_sized node_tag (node_size width) bytes at ≡ false → Faulty at ≡ nodes_seen width bytes start count numbers
+    pub node_faulty : is_sized node_tag (node_size width) bytes at ≡ false → refusal_at faulty_field at ≡ nodes_seen width bytes start count numbers
     node_faulty e = rw (turn_off (is_sized node_tag (node_size width) bytes) (row_told width bytes) (node_after width) count i at h e) at l.same
 
     module _ (e : is_sized node_tag (node_size width) bytes at ≡ true) where
@@ -116,7 +118,7 @@ module _ {width : ℕ} {bytes : List ℕ} {start count numbers : ℕ} {s : List 
                 reached = λ y. absurd (false≢true y);
               }
 
-  pub nodes_end : count ≤ i → Whole (well && has_ended s numbers w) at ≡ nodes_seen width bytes start count numbers
+  pub nodes_end : count ≤ i → seen (well && has_ended s numbers w) at ≡ nodes_seen width bytes start count numbers
   nodes_end h = rw (go well (λ z. (l.reached z).0)) (rw (turn_none (is_sized node_tag (node_size width) bytes) (row_told width bytes) (node_after width) count i at h) at l.same)
     where
       go : (b : Bool) → (b ≡ true → Reached s w) → (b && has_ended s numbers w) ≡ (b && is_some (ahead_by numbers s w []))

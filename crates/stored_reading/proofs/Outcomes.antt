@@ -1,6 +1,6 @@
 -- Laws of what the fields after the head come to: by what was seen of them, and by the rooms.
 -- Assumes nothing.
-use mathlib.Core.Path.{◌≡◌, refl, ap, sym, ◌∙◌}
+use mathlib.Core.Path.{◌≡◌, refl, ap, sym, subst, ◌∙◌}
 use mathlib.Core.Bool.{Bool, true, false, cond, ◌&&◌}
 use mathlib.Core.List.{List, [], ◌∷◌}
 use Prim.Native.Nat.{ℕ, zero, suc, ◌+◌, ◌*◌, ◌≤◌, ◌<◌}
@@ -10,6 +10,7 @@ use lib.Dec.{ltb}
 use lib.ListN.{length}
 use borrow.Author.Tests.{lt-ltb, le-ltb, le-leb}
 use Rattle.lists.specs.Lists.{every, All}
+use Rattle.lists.proofs.Cases.{and_both}
 use Rattle.refusals.specs.Refusals.{no_node_row, no_number_row, ill_formed_store, faulty_field}
 use Rattle.number.specs.Lexeme.{is_lexeme}
 use Rattle.store.specs.declared.ReadAnswer.{ReadAnswer}
@@ -25,11 +26,11 @@ use Rattle.fields.specs.Fields.{head_length, length_in, content_end, is_field, i
 use Rattle.fields.proofs.Fields.{has_room}
 use Rattle.stored_form.specs.declared.Version.{Version}
 use Rattle.stored_form.specs.declared.Counts.{Counts}
-use Rattle.stored_form.specs.declared.Head.TheVariants as head
+use Rattle.std.specs.Prelude.{Result, Ok, Err}
+use Rattle.stored_form.specs.declared.Refusal.{Refusal}
 use Rattle.stored_form.specs.declared.Seen.{Seen}
-use Rattle.stored_form.specs.declared.Seen.TheVariants.{Faulty, Whole}
 use Rattle.stored_form.specs.Form.{node_tag, number_tag, node_size, first_node, node_place}
-use Rattle.stored_form.specs.Reading.{counts_at, head_in, reading_of, Run, faulty, whole, row_told, node_after, nodes_from, span_told, numbers_from, place_after, roomed, checked, after_numbers, after_nodes, Right}
+use Rattle.stored_form.specs.Reading.{refusal_at, seen, head_in, reading_of, Run, faulty, whole, row_told, node_after, nodes_from, span_told, numbers_from, place_after, roomed, checked, after_numbers, after_nodes, Right}
 use Rattle.stored_numbers.specs.Looks.{numbers_well, numbers_seen}
 use Rattle.stored_reading.specs.Looks.{nodes_well, nodes_seen, headed_of, NodesSeen, NumbersGood, Filled}
 use Rattle.stored_form.proofs.Runs.{whole_one, no_field, first, fields_count, fields_fewer}
@@ -41,29 +42,32 @@ and_comm true false = refl
 and_comm false true = refl
 and_comm false false = refl
 
--- where the node fields begin, as the code counts
-abbrev pub begin : ℕ → ℕ
-begin w = counts_at + 2 * w
-
-pub begins : (w : ℕ) → begin w ≡ first_node w
-begins w = omega arith
-
 pub leaves_as : {o o' : Outcome} {ns ms ns' ms' : List ℕ} {a : ReadAnswer} → o ≡ o' → Leaves o' ns ms a ns' ms' → Leaves o ns ms a ns' ms'
 leaves_as e l = rw e l
 
 -- reading is what its head comes to
 module _ (v : Version) (bytes : List ℕ) (N M : ℕ) where
-  pub refused_head : {number place : ℕ} → head_in v bytes ≡ head.Refused number place → reading_of v N M bytes ≡ refused number place
+  pub refused_head : {r : Refusal} → head_in v bytes ≡ Err r → reading_of v N M bytes ≡ refused r.number r.place
   unfolding reading_of
   refused_head e = rw e
 
-  pub told_head : {c : Counts} → head_in v bytes ≡ head.Told c → reading_of v N M bytes ≡ headed_of v.width N M bytes c
+  pub told_head : {c : Counts} → head_in v bytes ≡ Ok c → reading_of v N M bytes ≡ headed_of v.width N M bytes c
   unfolding reading_of
   told_head e = rw e
 
 -- ---- what was seen of a run
-apart : (a b : ℕ) (w : Bool) → ◌≡◌ {A = Seen} (Faulty a) (Whole w b) → ⊥
-apart a b w e = let z : ◌≡◌ {A = ℕ} 0 1 = cc in omega arith
+apart : {b : ℕ} {w : Bool} {r : Refusal} → ◌≡◌ {A = Result Seen Refusal} (Err r) (seen w b) → ⊥
+apart e = let z : ◌≡◌ {A = ℕ} 0 1 = cc in omega arith
+
+seen_one : {w w' : Bool} {a a' : ℕ} → seen w a ≡ seen w' a' → (w ≡ w') × (a ≡ a')
+seen_one {w} {w'} {a} {a'} e =
+    let r : ◌≡◌ {A = Seen} (record { well = w; end = a }) (record { well = w'; end = a' }) = cc in
+    (ap (λ (s : Seen). s.well) r, ap (λ (s : Seen). s.end) r)
+
+refused_as : {X : Type 0} {n a : ℕ} {r : Refusal} → refusal_at {X = X} n a ≡ Err r → refused n a ≡ refused r.number r.place
+refused_as {X} {n} {a} {r} e =
+    let z : ◌≡◌ {A = Refusal} (record { number = n; place = a }) r = cc in
+    ap (λ (r : Refusal). refused r.number r.place) z
 
 -- node fields that are whole
 record TheNodes (numbers : ℕ) (r : Run Row) (well : Bool) (at : ℕ) : Type 0 where
@@ -71,11 +75,11 @@ record TheNodes (numbers : ℕ) (r : Run Row) (well : Bool) (at : ℕ) : Type 0 
   are : r ≡ whole its_rows at
   told : is_some (meets numbers (above ∷ []) 0 0 its_rows) ≡ well
 
-the_nodes : (numbers : ℕ) (r : Run Row) {well : Bool} {at : ℕ} → nodes_well numbers r ≡ Whole well at → TheNodes numbers r well at
-the_nodes numbers (faulty a) {well} {at} e = absurd (apart a at well e)
+the_nodes : (numbers : ℕ) (r : Run Row) {well : Bool} {at : ℕ} → nodes_well numbers r ≡ seen well at → TheNodes numbers r well at
+the_nodes numbers (faulty a) {well} {at} e = absurd (apart e)
 the_nodes numbers (whole rs a) {well} {at} e =
-    let z : a ≡ at = cc in
-    record { its_rows = rs; are = ap (whole rs) z; told = cc }
+    let z = seen_one e in
+    record { its_rows = rs; are = ap (whole rs) z.1; told = z.0 }
 
 -- number fields that are whole, with nothing after them
 record TheNumbers (bytes : List ℕ) (r : Run Span) (good : Bool) : Type 0 where
@@ -85,13 +89,13 @@ record TheNumbers (bytes : List ℕ) (r : Run Span) (good : Bool) : Type 0 where
   last : ltb end (length bytes) ≡ false
   told : every is_lexeme (span_texts its_spans) ≡ good
 
-the_numbers : (bytes : List ℕ) (r : Run Span) {good : Bool} {at : ℕ} → numbers_well bytes r ≡ Whole good at → TheNumbers bytes r good
-the_numbers bytes (faulty a) {good} {at} e = absurd (apart a at good e)
+the_numbers : (bytes : List ℕ) (r : Run Span) {good : Bool} {at : ℕ} → numbers_well bytes r ≡ seen good at → TheNumbers bytes r good
+the_numbers bytes (faulty a) {good} {at} e = absurd (apart e)
 the_numbers bytes (whole ss a) {good} {at} e = go (ltb a (length bytes)) refl e
   where
-    go : (b : Bool) → ltb a (length bytes) ≡ b → cond b (Faulty a) (Whole (every is_lexeme (span_texts ss)) a) ≡ Whole good at → TheNumbers bytes (whole ss a) good
-    go true z y = absurd (apart a at good y)
-    go false z y = record { its_spans = ss; end = a; are = refl; last = z; told = cc }
+    go : (b : Bool) → ltb a (length bytes) ≡ b → cond b (refusal_at faulty_field a) (seen (every is_lexeme (span_texts ss)) a) ≡ seen good at → TheNumbers bytes (whole ss a) good
+    go true z y = absurd (apart y)
+    go false z y = record { its_spans = ss; end = a; are = refl; last = z; told = (seen_one y).0 }
 
 -- ---- spans that number fields tell lie in the bytes, and hold them
 record Inside (bytes : List ℕ) (ss : List Span) : Type 0 where
@@ -113,12 +117,12 @@ module _ (w : ℕ) (bytes : List ℕ) (c : Counts) where
   node_run = nodes_from w bytes (first_node w) c.nodes
 
   module _ (N M : ℕ) where
-    pub nodes_fault : {at : ℕ} → nodes_seen w bytes (first_node w) c.nodes c.numbers ≡ Faulty at → headed_of w N M bytes c ≡ refused faulty_field at
-    nodes_fault {at} e = go node_run e
+    pub nodes_fault : {r : Refusal} → nodes_seen w bytes (first_node w) c.nodes c.numbers ≡ Err r → headed_of w N M bytes c ≡ refused r.number r.place
+    nodes_fault {r} e = go node_run e
       where
-        go : (r : Run Row) → nodes_well c.numbers r ≡ Faulty at → after_nodes w N M c.numbers bytes r ≡ refused faulty_field at
-        go (faulty a) z = let y : a ≡ at = cc in rw y
-        go (whole rs a) z = absurd (apart at a _ (sym z))
+        go : (run : Run Row) → nodes_well c.numbers run ≡ Err r → after_nodes w N M c.numbers bytes run ≡ refused r.number r.place
+        go (faulty a) z = refused_as z
+        go (whole rs a) z = absurd (apart (sym z))
 
   module _ {well : Bool} {middle : ℕ} (e : NodesSeen w bytes c well middle) where
     abbrev number_run : Run Span
@@ -130,19 +134,19 @@ module _ (w : ℕ) (bytes : List ℕ) (c : Counts) where
     after_nodes_law : (N M : ℕ) → headed_of w N M bytes c ≡ after_numbers w N M bytes its_nodes.its_rows middle number_run
     after_nodes_law N M = rw its_nodes.are
 
-    pub numbers_fault : (N M : ℕ) {at : ℕ} → numbers_seen bytes middle c.numbers ≡ Faulty at → headed_of w N M bytes c ≡ refused faulty_field at
-    numbers_fault N M {at} z = after_nodes_law N M ∙ go number_run z
+    pub numbers_fault : (N M : ℕ) {r : Refusal} → numbers_seen bytes middle c.numbers ≡ Err r → headed_of w N M bytes c ≡ refused r.number r.place
+    numbers_fault N M {r} z = after_nodes_law N M ∙ go number_run z
       where
-        go : (r : Run Span) → numbers_well bytes r ≡ Faulty at → after_numbers w N M bytes its_nodes.its_rows middle r ≡ refused faulty_field at
-        go (faulty a) y = let x : a ≡ at = cc in rw x
+        go : (run : Run Span) → numbers_well bytes run ≡ Err r → after_numbers w N M bytes its_nodes.its_rows middle run ≡ refused r.number r.place
+        go (faulty a) y = refused_as y
         go (whole ss a) y = by (ltb a (length bytes)) y
           where
-            by : (b : Bool) → cond b (Faulty a) (Whole (every is_lexeme (span_texts ss)) a) ≡ Faulty at → cond b (refused faulty_field a) (checked w N M bytes its_nodes.its_rows middle ss) ≡ refused faulty_field at
-            by true x = let u : a ≡ at = cc in rw u
-            by false x = absurd (apart at a _ (sym x))
+            by : (b : Bool) → cond b (refusal_at faulty_field a) (seen (every is_lexeme (span_texts ss)) a) ≡ Err r → cond b (refused faulty_field a) (checked w N M bytes its_nodes.its_rows middle ss) ≡ refused r.number r.place
+            by true x = refused_as x
+            by false x = absurd (apart (sym x))
 
     -- ---- every field is right
-    module _ {good : Bool} {at : ℕ} (z : numbers_seen bytes middle c.numbers ≡ Whole good at) where
+    module _ {good : Bool} {at : ℕ} (z : numbers_seen bytes middle c.numbers ≡ seen good at) where
       its_numbers : TheNumbers bytes number_run good
       its_numbers = the_numbers bytes number_run z
 
@@ -172,15 +176,22 @@ pub record Fields (w : ℕ) (bytes : List ℕ) (c : Counts) (middle : ℕ) : Typ
 pub fields_good : {w : ℕ} {bytes : List ℕ} {c : Counts} {middle : ℕ} → NodesSeen w bytes c true middle → NumbersGood bytes middle c.numbers → Fields w bytes c middle
 fields_good {w} {bytes} {c} {middle} e g =
     let rs = its_nodes w bytes c e in
-    let ss = its_numbers w bytes c e g.seen in
+    let ss = its_numbers w bytes c e g.are in
     record {
       its_rows = rs.its_rows;
       its_spans = ss.its_spans;
       end = ss.end;
       nodes = rs.are;
       numbers = ss.are;
-      outcome = after_numbers_law w bytes c e g.seen;
+      outcome = after_numbers_law w bytes c e g.are;
     }
+
+-- what was seen, where all of it is well
+pub good_fields : (w : ℕ) (bytes : List ℕ) (c : Counts) (nodes numbers : Seen) → nodes_seen w bytes (first_node w) c.nodes c.numbers ≡ Ok nodes → numbers_seen bytes nodes.end c.numbers ≡ Ok numbers → (nodes.well && numbers.well) ≡ true
+    → NodesSeen w bytes c true nodes.end × NumbersGood bytes nodes.end c.numbers
+good_fields w bytes c nodes numbers e m g =
+    let both = and_both nodes.well numbers.well g in
+    (subst (λ (b : Bool). NodesSeen w bytes c b nodes.end) both.0 e, record { end = numbers.end; are = subst (λ (b : Bool). numbers_seen bytes nodes.end c.numbers ≡ seen b numbers.end) both.1 m })
 
 -- where node fields end
 nodes_room : (w : ℕ) (bytes : List ℕ) (n at : ℕ) (rs : List Row) (end : ℕ) → at ≤ length bytes → nodes_from w bytes at n ≡ whole rs end → at + n * (head_length + node_size w) ≤ length bytes
@@ -190,8 +201,8 @@ nodes_room w bytes (suc n) at rs end h e =
     omega (arith, suc-mul n (head_length + node_size w), nodes_room w bytes n (node_after w at) f.tail end (node_room_law w bytes at f.is_right) f.rest)
 
 module _ {w : ℕ} {bytes : List ℕ} {c : Counts} {middle : ℕ} (f : Fields w bytes c middle) where
-  pub right_nodes : Right (nodes_from w bytes (begin w) c.nodes)
-  right_nodes = rw (begins w) (record { items = f.its_rows; end = middle; are = f.nodes })
+  pub right_nodes : Right (nodes_from w bytes (first_node w) c.nodes)
+  right_nodes = record { items = f.its_rows; end = middle; are = f.nodes }
 
   pub right_numbers : Right (numbers_from bytes middle c.numbers)
   right_numbers = record { items = f.its_spans; end = f.end; are = f.numbers }
@@ -206,15 +217,15 @@ module _ {w : ℕ} {bytes : List ℕ} {c : Counts} {middle : ℕ} (f : Fields w 
   span_count = fields_count (is_field number_tag bytes) (span_told bytes) (content_end bytes) c.numbers middle f.its_spans f.end f.numbers
 
   -- the first node field that has no row lies in the bytes
-  pub node_inside : first_node w ≤ length bytes → {N : ℕ} → N < c.nodes → begin w + N * (head_length + 2 + w) ≤ length bytes
+  pub node_inside : first_node w ≤ length bytes → {N : ℕ} → N < c.nodes → first_node w + N * (head_length + 2 + w) ≤ length bytes
   node_inside h {N} l = omega (arith, nodes_room w bytes c.nodes (first_node w) f.its_rows middle h f.nodes, mul-le-mul_right (head_length + node_size w) l)
 
   -- n and m are the rooms N and M, as the code counts them
   module _ (N M : ℕ) {n : ℕ} (is_n : n ≡ N) where
-    pub no_node_row_law : n < c.nodes → headed_of w N M bytes c ≡ refused no_node_row (begin w + n * (head_length + 2 + w))
+    pub no_node_row_law : n < c.nodes → headed_of w N M bytes c ≡ refused no_node_row (first_node w + n * (head_length + 2 + w))
     unfolding roomed
     no_node_row_law h =
-        let place : node_place w n ≡ begin w + n * (head_length + 2 + w) = omega arith in
+        let place : node_place w n ≡ first_node w + n * (head_length + 2 + w) = omega arith in
         rw (← is_n) (f.outcome n M ∙ rw (row_count, lt-ltb n c.nodes h, place))
 
     module _ {m : ℕ} (is_m : m ≡ M) (rows : c.nodes ≤ n) where
@@ -227,6 +238,6 @@ module _ {w : ℕ} {bytes : List ℕ} {c : Counts} {middle : ℕ} (f : Fields w 
       enough_rows_law h = rw (← is_n, ← is_m) (f.outcome n m ∙ rw (row_count, span_count, le-ltb n c.nodes rows, le-ltb m c.numbers h))
 
       -- both slices are filled
-      pub fields_filled : c.numbers ≤ m → {ns ms ns' ms' : List ℕ} → Filled flat_rows (nodes_from w bytes (begin w) c.nodes) ns ns' → Filled flat_spans (numbers_from bytes middle c.numbers) ms ms'
+      pub fields_filled : c.numbers ≤ m → {ns ms ns' ms' : List ℕ} → Filled flat_rows (nodes_from w bytes (first_node w) c.nodes) ns ns' → Filled flat_spans (numbers_from bytes middle c.numbers) ms ms'
           → Leaves (headed_of w N M bytes c) ns ms (record { number = 0; place = 0; nodes = c.nodes; numbers = c.numbers }) ns' ms'
-      fields_filled h a b = rw (enough_rows_law h) (record { answer = rw (row_count, span_count); nodes = a.put f.its_rows middle (rw (begins w) f.nodes); numbers = b.put f.its_spans f.end f.numbers })
+      fields_filled h a b = rw (enough_rows_law h) (record { answer = rw (row_count, span_count); nodes = a.put f.its_rows middle (f.nodes); numbers = b.put f.its_spans f.end f.numbers })

@@ -137,7 +137,7 @@ module _ (v w : Version) (source ns ms : List ℕ) (a : ReadAnswer) (ns' ms' : L
           let u = accepted_tree v (node_room ns) (number_room ms) source its.rows its.spans its.is in
           let q = accepted_stored v known (node_room ns) (number_room ms) source all its.rows its.spans its.is in
           let st = store_tree source (flat_rows its.rows) (flat_spans its.spans) u.tree u.is in
-          rw (used_nodes_law, used_numbers_law) (record { known = known; well = a.well; stored = rw (st.its_rows, st.its_texts) q.stored; fits = rw (st.its_rows, st.its_texts) q.fits })
+          rw (used_nodes_law, used_numbers_law) (record { well = a.well; stored = rw (st.its_rows, st.its_texts) q.stored; fits = rw (st.its_rows, st.its_texts) q.fits })
 
       -- ---- what was written of it
       module _ {room : ℕ} {r : WriteAnswer} {out : List ℕ} (write : Writes (stored_of w source used_nodes used_numbers) room r out) where

@@ -27,11 +27,11 @@ use Rattle.stored_form.specs.Form.{Known, node_size, head_field, node_field, num
 use Rattle.stored_form.proofs.Known.{largest_fits}
 use Rattle.stored_form.proofs.Fits.{FitsEach, fits_each, each_fits}
 use Rattle.stored_form.proofs.Stores.{stored_is}
-use Rattle.stored_writing.specs.Writing.{HasRoom, StoredIn, NumbersFrom}
+use Rattle.stored_writing.specs.Writing.{RowsFit, StoredIn, NumbersFrom}
 use Rattle.stored_writing.proofs.Measures.{both_fit, head_length_law, nodes_length, stored_length}
 use Rattle.stored_writing.proofs.Written.{its_bytes, small_rows}
 
-module _ (v w : Version) (source nodes numbers : List ℕ) (s : StoredIn v source nodes numbers) (known : Known w) where
+module _ (v w : Version) (source nodes numbers : List ℕ) (s : StoredIn v source nodes numbers) (known : Known v) where
   abbrev rs : List Row
   rs = all_rows nodes
 
@@ -48,7 +48,7 @@ module _ (v w : Version) (source nodes numbers : List ℕ) (s : StoredIn v sourc
   each = fits_each v rs ts s.fits
 
   pub few_nodes : node_room nodes < 2 ^ 32
-  few_nodes = omega (arith, each.nodes, rows_are, largest_fits s.known)
+  few_nodes = omega (arith, each.nodes, rows_are, largest_fits known)
 
   -- ---- the number fields
   abbrev middle : ℕ
@@ -117,8 +117,8 @@ module _ (v w : Version) (source nodes numbers : List ℕ) (s : StoredIn v sourc
         pub does_fit : stored_of w source nodes numbers ≡ bytes (its_bytes w source nodes numbers)
         does_fit = stored_is w source nodes numbers s.well ∙ rw all_fit
 
-        pub has_room : {room : ℕ} → node_place w.width (node_room nodes) + (length source - middle) ≤ room → HasRoom w source nodes numbers room
-        has_room h = record { known = known; node_count_law = omega (arith, counts_fit.0, en); number_count_law = omega (arith, counts_fit.1, em); small = small_rows w source nodes numbers s.well; enough = omega (arith, h, other_length) }
+        pub rows_fit : RowsFit w nodes numbers
+        rows_fit = record { node_count_law = omega (arith, counts_fit.0, en); number_count_law = omega (arith, counts_fit.1, em); small = small_rows w source nodes numbers s.well }
 
 -- ---- the number fields are copied
 emits_piece : {piece piece' : List ℕ} {p : Pen} {out : List ℕ} {r : Pen} {out' : List ℕ} → piece ≡ piece' → Puts piece p out r out' → Emits (λ rest. piece' ++ rest) p out r out'

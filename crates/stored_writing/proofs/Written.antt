@@ -27,9 +27,9 @@ use Rattle.pen.specs.Pen.{pen, HasPut, ToPut, Emits}
 use Rattle.pen.proofs.Puts.{emits_then}
 use Rattle.pen.proofs.Written.{writes_all}
 use Rattle.stored_form.specs.declared.Version.{Version}
-use Rattle.stored_form.specs.Form.{Known, head_field, node_field, number_field, stored_rows, stored_of}
+use Rattle.stored_form.specs.Form.{head_field, node_field, number_field, stored_rows, stored_of}
 use Rattle.stored_form.proofs.Stores.{stored_is}
-use Rattle.stored_writing.specs.Writing.{lengths_in, measure_of, SmallRow, HasRoom}
+use Rattle.stored_writing.specs.Writing.{lengths_in, measure_of, SmallRow, RowsFit, rows_before}
 use Rattle.stored_writing.proofs.Measures.{Measured, measured, counts_small}
 use Rattle.stored_writing.proofs.Putting.{all_last}
 
@@ -45,17 +45,16 @@ module _ (v : Version) (text nodes numbers : List ℕ) where
   abbrev pub its_bytes : List ℕ
   its_bytes = stored_rows v (all_rows nodes) (all_texts text numbers)
 
-  pub tree_put : {n m : ℕ} → n ≡ node_room nodes → m ≡ number_room numbers → {out out₁ out₂ out₃ left : List ℕ} {p q r : Pen} → Emits (λ rest. head_field v n m ++ rest) (pen 0 false) out p out₁
-      → Emits (λ rest. flat_map (node_field v.width) (all_rows nodes) ++ rest) p out₁ q out₂ → Emits (λ rest. flat_map number_field (all_texts text numbers) ++ rest) q out₂ r out₃ → left ≡ cleared out₃ r.at
-      → length its_bytes ≤ length out → Writes (bytes its_bytes) (length out) (wrote r.at) left
+  put_are : {n m : ℕ} → n ≡ length (all_rows nodes) → m ≡ length (all_texts text numbers) → head_field v n m ++ (flat_map (node_field v.width) (all_rows nodes) ++ (flat_map number_field (all_texts text numbers) ++ [])) ≡ its_bytes
   unfolding stored_rows
-  tree_put {n} {m} en em {out} {r = r} a b c e room =
-      let all : Emits (λ rest. head_field v n m ++ (flat_map (node_field v.width) (all_rows nodes) ++ (flat_map number_field (all_texts text numbers) ++ rest))) (pen 0 false) out r _ = emits_then a (emits_then b c) in
-      let i : n ≡ length (all_rows nodes) = en ∙ sym (rows_length nodes (node_room nodes)) in
-      let j : m ≡ length (all_texts text numbers) = em ∙ sym (texts_count text numbers) in
-      let g : head_field v n m ++ (flat_map (node_field v.width) (all_rows nodes) ++ (flat_map number_field (all_texts text numbers) ++ [])) ≡ its_bytes = rw (i, j, append-nil) in
-      let put : ToPut its_bytes [] r _ = all.to its_bytes [] (record { within = omega arith; held = g }) in
-      writes_all put all.same (not_full put (rw all.same room)) e
+  put_are i j = rw (i, j, append-nil)
+
+  pub tree_put : {out out₁ out₂ left : List ℕ} {p q : Pen} {a : WriteAnswer} → Emits (rows_before v nodes numbers) (pen 0 false) out p out₁ → Emits (λ rest. flat_map number_field (all_texts text numbers) ++ rest) p out₁ q out₂
+      → length its_bytes ≤ length out → a ≡ wrote q.at → left ≡ cleared out₂ q.at → Writes (bytes its_bytes) (length out) a left
+  tree_put {out} {q = q} rows texts room answer e =
+      let all : Emits (λ rest. rows_before v nodes numbers (flat_map number_field (all_texts text numbers) ++ rest)) (pen 0 false) out q _ = emits_then rows texts in
+      let put : ToPut its_bytes [] q _ = all.to its_bytes [] (record { within = omega arith; held = put_are (sym (rows_length nodes (node_room nodes))) (sym (texts_count text numbers)) }) in
+      rw answer (writes_all put all.same (not_full put (rw all.same room)) e)
 
 -- ---- a well-formed store
 map_both : {A B : Type 0} (f : A → B) (a b : List A) → map f (a ++ b) ≡ map f a ++ map f b
@@ -114,7 +113,7 @@ module _ (v : Version) (text nodes numbers : List ℕ) where
 pub no_room_law : {goal : List ℕ} {room : ℕ} {r : WriteAnswer} {out : List ℕ} → room < length goal → Writes (refusal no_room) room r out → Writes (bytes goal) room r out
 no_room_law {goal} {room} h w = let t = lt-leb (length goal) room h in record { answer = rw t w.answer; bytes = rw t w.bytes }
 
-pub has_room : (v : Version) (text nodes numbers : List ℕ) {room : ℕ} → Known v → well_formed text nodes numbers ≡ true → measure_of v (node_room nodes) (lengths_in numbers) ≤ v.limit → measure_of v (node_room nodes) (lengths_in numbers) ≤ room → HasRoom v text nodes numbers room
-has_room v text nodes numbers k well h g =
+pub rows_fit : (v : Version) (text nodes numbers : List ℕ) → well_formed text nodes numbers ≡ true → measure_of v (node_room nodes) (lengths_in numbers) ≤ v.limit → RowsFit v nodes numbers
+rows_fit v text nodes numbers well h =
     let c = counts_small v nodes numbers h in
-    record { known = k; node_count_law = c.0; number_count_law = c.1; small = small_rows v text nodes numbers well; enough = omega (arith, its_length v text nodes numbers well h) }
+    record { node_count_law = c.0; number_count_law = c.1; small = small_rows v text nodes numbers well }

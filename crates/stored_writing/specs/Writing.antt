@@ -1,13 +1,13 @@
 -- What private functions of the writer measure, and what they ask.
 use Rattle.std.specs.Prelude.{◌≡◌, true, cond, ◌&&◌, ◌||◌, ℕ, ◌+◌, ◌≤◌, ◌<◌, leb, ltb, length, drop}
-use mathlib.Core.List.{List, [], ◌∷◌, flat_map}
+use mathlib.Core.List.{List, [], ◌∷◌, ◌++◌, flat_map}
 use Rattle.lists.specs.Lists.{every, All}
 use Rattle.store.specs.Rows.{Row, node_room, number_room, span_length_at, firsts}
 use Rattle.shape.specs.Store.{all_rows, all_texts, well_formed}
 use Rattle.fields.specs.Counts.{byte}
 use Rattle.fields.specs.Fields.{head_length, longest}
 use Rattle.stored_form.specs.declared.Version.{Version}
-use Rattle.stored_form.specs.Form.{Known, number_field, stored_rows, node_place, fits_rows}
+use Rattle.stored_form.specs.Form.{head_field, node_field, number_field, stored_rows, node_place, fits_rows}
 
 -- ---- measuring
 -- the lengths of all number texts, as their rows say them
@@ -32,18 +32,19 @@ measure_of v count ns = cond (ltb v.largest count || ltb v.largest (length ns)) 
 abbrev pub SmallRow : Row → Type 0
 SmallRow r = (r.kind < byte) × (r.dimension < byte)
 
--- a store whose fields have room
-pub record HasRoom (v : Version) (text nodes numbers : List ℕ) (room : ℕ) : Type 0 where
-  pub known : Known v
+-- rows that a version has bytes for
+pub record RowsFit (v : Version) (nodes numbers : List ℕ) : Type 0 where
   pub node_count_law : node_room nodes ≤ v.largest
   pub number_count_law : number_room numbers ≤ v.largest
   pub small : All SmallRow (all_rows nodes)
-  pub enough : length (stored_rows v (all_rows nodes) (all_texts text numbers)) ≤ room
+
+-- the head and the node fields, before a rest
+abbrev pub rows_before : Version → List ℕ → List ℕ → List ℕ → List ℕ
+rows_before v nodes numbers rest = head_field v (node_room nodes) (number_room numbers) ++ (flat_map (node_field v.width) (all_rows nodes) ++ rest)
 
 -- ---- writing what was read
 -- stored bytes of a version, with the rows that they were read to
 pub record StoredIn (v : Version) (source nodes numbers : List ℕ) : Type 0 where
-  pub known : Known v
   pub well : well_formed source nodes numbers ≡ true
   pub stored : source ≡ stored_rows v (all_rows nodes) (all_texts source numbers)
   pub fits : fits_rows v (all_rows nodes) (all_texts source numbers) ≡ true

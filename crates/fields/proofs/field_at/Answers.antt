@@ -11,7 +11,7 @@ pub returns-then-len-at : goal.returns-then-len-at
 returns-then-len-at c = cut_faulty _ _ _ (omega arith)
 
 pub returns-then-bytes-at : goal.returns-then-bytes-at
-returns-then-bytes-at c = found_faulty _ _ _ (omega arith) _ (c.count_in-length.ensures ∙ length_read _ _ (λ i. (c.shared_slice_known-1.given i).fits)) c.if-bytes-at.true
+returns-then-bytes-at c = found_faulty _ _ _ (omega arith) _ (c.count_in-length.ensures ∙ length_read _ _ (λ i. (c.type_inv.bytes i).fits)) c.if-bytes-at.true
 
 pub returns : goal.returns
-returns c = found_whole _ _ _ (omega arith) _ (c.count_in-length.ensures ∙ length_read _ _ (λ i. (c.shared_slice_known-1.given i).fits)) c.if-bytes-at.false
+returns c = found_whole _ _ _ (omega arith) _ (c.count_in-length.ensures ∙ length_read _ _ (λ i. (c.type_inv.bytes i).fits)) c.if-bytes-at.false

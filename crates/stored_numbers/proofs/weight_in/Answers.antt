@@ -6,15 +6,9 @@ use Rattle.stored_numbers.proofs.weight_in.Goals as goal
 pub loop-i-init : goal.loop-i-init
 loop-i-init c = nothing_weighed _ _ _
 
-pub overflow_add-sum : goal.overflow_add-sum
-overflow_add-sum c =
-    let h = c.loop-i.invariant in
-    let added : Adds c.args.text.now c.args.from c.args.len c.loop-i.i c.lesser-sum.result = rw (c.lesser-sum.ensures, c.weight_of-own.ensures, c.requires.2) (adds c.args.text.now c.args.from c.args.len c.loop-i.i c.loop-i-test.true c.requires.0 c.requires.1) in
-    omega (arith, h.light, h.within, added.few)
-
 pub loop-i-preserved : goal.loop-i-preserved
 loop-i-preserved c =
-    let added : Adds c.args.text.now c.args.from c.args.len c.loop-i.i c.lesser-sum.result = rw (c.lesser-sum.ensures, c.weight_of-own.ensures, c.requires.2) (adds c.args.text.now c.args.from c.args.len c.loop-i.i c.loop-i-test.true c.requires.0 c.requires.1) in
+    let added : Adds c.args.text.now c.args.from c.args.len c.loop-i.i c.min-sum.result = rw (c.min-sum.ensures, c.weight_of.ensures, c.requires.2) (adds c.args.text.now c.args.from c.args.len c.loop-i.i c.loop-i-test.true c.requires.0 c.requires.1) in
     one_weighed c.loop-i.invariant c.loop-i-test.true added
 
 pub returns : goal.returns

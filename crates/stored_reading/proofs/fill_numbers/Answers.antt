@@ -23,10 +23,10 @@ pub overflow_cast-start : goal.overflow_cast-start
 overflow_cast-start c = omega (arith, c.requires.0, numbers_room c.loop-i.invariant c.loop-i-test.true)
 
 pub overflow_add-at-in-loop-i : goal.overflow_add-at-in-loop-i
-overflow_add-at-in-loop-i c = omega (arith, numbers_room c.loop-i.invariant c.loop-i-test.true, c.count_in-length.ensures ∙ length_read _ c.loop-i.at (λ i. (c.shared_slice_known-1.given i).fits))
+overflow_add-at-in-loop-i c = omega (arith, numbers_room c.loop-i.invariant c.loop-i-test.true, c.count_in-length.ensures ∙ length_read _ c.loop-i.at (λ i. (c.type_inv.bytes i).fits))
 
 pub loop-i-preserved : goal.loop-i-preserved
-loop-i-preserved c = numbers_on c.loop-i.invariant c.loop-i-test.true c.requires.1 (c.count_in-length.ensures ∙ length_read _ c.loop-i.at (λ i. (c.shared_slice_known-1.given i).fits)) c.put_number.ensures
+loop-i-preserved c = numbers_on c.loop-i.invariant c.loop-i-test.true c.requires.1 (c.count_in-length.ensures ∙ length_read _ c.loop-i.at (λ i. (c.type_inv.bytes i).fits)) c.put_number.ensures
 
 pub shape_of-numbers : goal.shape_of-numbers
 shape_of-numbers c = c.clear.auto.slice ∙ c.loop-i.invariant.same

@@ -1,6 +1,6 @@
 -- `stored_reading::look_at_nodes` meets its contract: the walk has entered the rows of the fields so far, or one of them made them no tree.
 use mathlib.Core.Path.{sym, ◌∙◌}
-use Prim.Native.Nat.{ℕ, ◌+◌}
+use Prim.Native.Nat.{ℕ}
 use native.Mathlib.Omega.{arith}
 use lib.ListN.{length-replicate}
 use Rattle.nodes.specs.declared.Frame.{Frame}
@@ -10,11 +10,11 @@ use Rattle.stored_reading.proofs.Looks.{nodes_begin, node_room_law, node_faulty,
 use Rattle.stored_reading.proofs.look_at_nodes.Goals as goal
 use Rattle.stored_reading.proofs.look_at_nodes.Goals.{then-well+in-Some, then-well+in-None, else-well}
 
-pub loop-i-init : goal.loop-i-init
-loop-i-init c = nodes_begin _ _ _ _ _ _ (length-replicate {A = Frame} frames above) c.start-w.ensures
+pub loop-init : goal.loop-init
+loop-init c = rw c.first_node-at.ensures (nodes_begin _ _ _ _ _ _ (length-replicate {A = Frame} frames above) c.start-w.ensures)
 
 pub returns-then-not-is_sized : goal.returns-then-not-is_sized
-returns-then-not-is_sized c = node_faulty c.loop-i.invariant c.loop-i-test.true (sym c.is_sized.ensures ∙ c.if-not-is_sized.true)
+returns-then-not-is_sized c = node_faulty c.loop.invariant c.loop-test.true (sym c.is_sized.ensures ∙ c.if-not-is_sized.true)
 
 pub overflow_add-content : goal.overflow_add-content
 overflow_add-content c = omega (arith, node_room_law _ _ _ (sym c.is_sized.ensures ∙ c.if-not-is_sized.false))
@@ -28,29 +28,23 @@ overflow_add-end c = omega (arith, node_room_law _ _ _ (sym c.is_sized.ensures �
 pub bounds-bytes-content : goal.bounds-bytes-content
 bounds-bytes-content c = omega (arith, node_room_law _ _ _ (sym c.is_sized.ensures ∙ c.if-not-is_sized.false))
 
-pub overflow_cast-bytes : goal.overflow_cast-bytes
-overflow_cast-bytes c = omega (arith, c.shared_slice_known-then-well-1.given (c.loop-i.at + 3))
-
 pub overflow_add-content-then-well : goal.overflow_add-content-then-well
 overflow_add-content-then-well c = omega (arith, node_room_law _ _ _ (sym c.is_sized.ensures ∙ c.if-not-is_sized.false))
 
 pub bounds-bytes-content-then-well : goal.bounds-bytes-content-then-well
 bounds-bytes-content-then-well c = omega (arith, node_room_law _ _ _ (sym c.is_sized.ensures ∙ c.if-not-is_sized.false))
 
-pub overflow_cast-bytes-then-well : goal.overflow_cast-bytes-then-well
-overflow_cast-bytes-then-well c = omega (arith, c.shared_slice_known-then-well-2-1.given (c.loop-i.at + 3 + 1))
-
 pub slice_bounds-count_in-end : goal.slice_bounds-count_in-end
 slice_bounds-count_in-end c = omega (arith, node_room_law _ _ _ (sym c.is_sized.ensures ∙ c.if-not-is_sized.false))
 
-pub loop-i-preserved : goal.loop-i-preserved
-loop-i-preserved c =
+pub loop-preserved : goal.loop-preserved
+loop-preserved c =
     let e = sym c.is_sized.ensures ∙ c.if-not-is_sized.false in
-    let inv = c.loop-i.invariant in
-    let test = c.loop-i-test.true in
+    let inv = c.loop.invariant in
+    let test = c.loop-test.true in
     let narrow = c.requires.0 in
     let few = c.requires.1 in
-    let all : (i : ℕ) → _ = λ i. (c.shared_slice_known-1.given i).fits in
+    let all : (i : ℕ) → _ = λ i. (c.type_inv.bytes i).fits in
     elim c.if-well.branch [
       | then-well+in-Some w ↦ rw (w.frames-is, w.w-is, w.well-is ∙ w.if-well.true) (node_to inv test e w.if-well.true narrow few all w.count_in.ensures w.enter-entered.ensures w.in-Some.is)
       | then-well+in-None w ↦ rw (w.frames-is, w.w-is, w.well-is) (node_ill inv test e w.if-well.true narrow few all w.count_in.ensures w.enter-entered.ensures w.in-None.is _)
@@ -58,4 +52,4 @@ loop-i-preserved c =
     ]
 
 pub returns : goal.returns
-returns c = rw c.has_ended.ensures (nodes_end c.loop-i.invariant c.loop-i-test.false)
+returns c = rw c.has_ended.ensures (nodes_end c.loop.invariant c.loop-test.false)

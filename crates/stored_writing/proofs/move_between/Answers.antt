@@ -15,16 +15,15 @@ returns-then-read-ne0 c =
 pub rewrite-wrote-requires : goal.rewrite-wrote-requires
 rewrite-wrote-requires c =
     let s = c.args in
-    (rw c.version_of.ensures (store_stored (version_of s.from) (version_of s.to) s.bytes.now s.nodes.now s.numbers.now _ _ _ c.read-read.ensures c.if-read-ne0.false c.node_places-node_places.ensures.value c.number_places-number_places.ensures.value (known_of s.from) (all_bytes s.bytes.now (λ i. (c.shared_slice_known-1.given i).fits))), rw c.version_of-2.ensures (known_of s.to))
+    store_stored (version_of s.from) (version_of s.to) s.bytes.now s.nodes.now s.numbers.now _ _ _ c.read-read.ensures c.if-read-ne0.false c.node_places-node_places.ensures.value c.number_places-number_places.ensures.value (known_of s.from) (all_bytes s.bytes.now (λ i. (c.type_inv.bytes i).fits))
 
 pub returns-then-wrote-ne0 : goal.returns-then-wrote-ne0
 returns-then-wrote-ne0 c =
     let s = c.args in
-    let w = rw c.version_of-2.ensures at c.rewrite-wrote.ensures in
-    let m = unwritten (version_of s.from) (version_of s.to) s.bytes.now s.nodes.now s.numbers.now _ _ _ c.read-read.ensures c.if-read-ne0.false c.node_places-node_places.ensures.value c.number_places-number_places.ensures.value w (λ z. c.if-wrote-ne0.true z) c.refused_move-then-wrote-ne0.ensures in
+    let m = unwritten (version_of s.from) (version_of s.to) s.bytes.now s.nodes.now s.numbers.now _ _ _ c.read-read.ensures c.if-read-ne0.false c.node_places-node_places.ensures.value c.number_places-number_places.ensures.value c.rewrite-wrote.ensures (λ z. c.if-wrote-ne0.true z) c.refused_move-then-wrote-ne0.ensures in
     rw (c.clear-then-wrote-ne0.ensures, c.clear-then-wrote-ne0-2.ensures) m
 
 pub returns : goal.returns
 returns c =
     let s = c.args in
-    written (version_of s.from) (version_of s.to) s.bytes.now s.nodes.now s.numbers.now _ _ _ c.read-read.ensures c.if-read-ne0.false c.node_places-node_places.ensures.value c.number_places-number_places.ensures.value (rw c.version_of-2.ensures at c.rewrite-wrote.ensures) c.if-wrote-ne0.false
+    written (version_of s.from) (version_of s.to) s.bytes.now s.nodes.now s.numbers.now _ _ _ c.read-read.ensures c.if-read-ne0.false c.node_places-node_places.ensures.value c.number_places-number_places.ensures.value c.rewrite-wrote.ensures c.if-wrote-ne0.false

@@ -1,11 +1,7 @@
--- What `stored_writing::put_numbers` keeps true in its loops, and what falls.
-use Prim.Native.Nat.{◌-◌}
+-- What `stored_writing::put_numbers` keeps true in its loop.
 use Rattle.pen.specs.Pen.{Owes}
 use Rattle.stored_writing.proofs.Putting.{numbers_left}
 use Rattle.stored_writing.proofs.put_numbers.Given as goal
 
 abbrev pub invariant-loop-i : goal.invariant-loop-i
 invariant-loop-i l = Owes (numbers_left l.text l.numbers 0) (numbers_left l.text l.numbers l.i) l.initial.q l.initial.out l.q l.out
-
-abbrev pub decreases-loop-i : goal.decreases-loop-i
-decreases-loop-i l = l.count - l.i
