@@ -117,7 +117,7 @@ pub record EndingRow (row : ℕ) : Type 0 where
   pub stands : drop row endings ≡ (row, ending_at row) ∷ drop (row + 1) endings
   pub string : string_of endings row ≡ ending_at row
   pub inside : get_or ending_lengths row 0 ≤ length (get_or padded_endings row [])
-  pub small : get_or ending_lengths row 0 < 256
+  pub small : get_or ending_lengths row 0 ≤ 2
 
 pub ending_row_law : (row : ℕ) → row < 4 → EndingRow row
 unfolding string_of

@@ -1,27 +1,17 @@
 -- `names::ending_of` meets its contract. The loop's invariant: the endings from `row` on decide.
-use native.Mathlib.Omega.{arith}
 use mathlib.Core.Path.{sym, ◌∙◌}
-use Rattle.names.proofs.Rows.{ending_row_law, endings_start, endings_none, ending_sized, ending_passed, ending_found}
+use Rattle.names.proofs.Rows.{endings_start, endings_none, ending_sized, ending_passed, ending_found}
 use Rattle.names.proofs.ending_of.Goals as goal
 use Rattle.names.proofs.ending_of.Goals.{then-w-row+else-has_both, else-w-row}
 
 pub loop-row-init : goal.loop-row-init
 loop-row-init c = endings_start _
 
-pub overflow_cast-row : goal.overflow_cast-row
-overflow_cast-row c = omega (arith, (ending_row_law _ c.loop-row-test.true).small)
-
 pub returns-then-has_both : goal.returns-then-has_both
 returns-then-has_both c =
     ending_found _ c.loop-row.row c.loop-row-test.true c.if-w-row.true
     (rw (← c.letter_at-first.ensures, ← c.letter_at-second.ensures) (sym c.has_both.ensures ∙ c.if-has_both.true))
     ∙ c.loop-row.invariant
-
-pub overflow_add-row : goal.overflow_add-row
-overflow_add-row c = omega (arith, c.loop-row-test.true)
-
-pub loop-row-smaller : goal.loop-row-smaller
-loop-row-smaller c = omega (arith, c.loop-row-test.true)
 
 pub loop-row-preserved : goal.loop-row-preserved
 loop-row-preserved c =

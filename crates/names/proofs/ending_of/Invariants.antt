@@ -1,12 +1,8 @@
--- What `names::ending_of` keeps true in its loops, and what falls.
+-- What `names::ending_of` keeps true in its loop.
 use mathlib.Core.Path.{◌≡◌}
-use Prim.Native.Nat.{◌-◌}
 use Rattle.names.specs.Names.{ending}
 use Rattle.names.proofs.Rows.{endings_from}
 use Rattle.names.proofs.ending_of.Given as goal
 
 abbrev pub invariant-loop-row : goal.invariant-loop-row
 invariant-loop-row l = endings_from l.row l.w ≡ ending l.w
-
-abbrev pub decreases-loop-row : goal.decreases-loop-row
-decreases-loop-row l = 4 - l.row

@@ -11,20 +11,11 @@ returns-then-w-eq0 c = no_front _ c.if-w-eq0.true
 pub loop-row-init : goal.loop-row-init
 loop-row-init c = names_start _
 
-pub overflow_cast-length : goal.overflow_cast-length
-overflow_cast-length c = omega (arith, (name_row _ c.loop-row-test.true).small)
-
 pub has_letters-requires : goal.has_letters-requires
 has_letters-requires c = let row = name_row _ c.loop-row-test.true in (row.inside, row.capital)
 
 pub returns-then-has_letters : goal.returns-then-has_letters
 returns-then-has_letters c = name_found _ _ c.loop-row-test.true (sym c.has_letters.ensures ∙ c.if-has_letters.true) ∙ c.loop-row.invariant
-
-pub overflow_add-row : goal.overflow_add-row
-overflow_add-row c = omega (arith, c.loop-row-test.true)
-
-pub loop-row-smaller : goal.loop-row-smaller
-loop-row-smaller c = omega (arith, c.loop-row-test.true)
 
 pub loop-row-preserved : goal.loop-row-preserved
 loop-row-preserved c =

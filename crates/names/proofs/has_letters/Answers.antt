@@ -35,18 +35,18 @@ loop-i-preserved c =
     let at = c.loop-i in
     (at.invariant.0, letters_four _ _ _ c.requires.0 at.i at.invariant.1 at.invariant.0 c.requires.1 (λ j. (c.type_inv.w j).fits) c.loop-i-test.true (ap no_cases (sym c.four_at.ensures) ∙ c.if-four_at.false ∙ c.four_at-in-loop-i.ensures))
 
-pub loop-i-2-init : goal.loop-i-2-init
-loop-i-2-init c = c.loop-i.invariant
+pub loop-place-init : goal.loop-place-init
+loop-place-init c = c.loop-i.invariant
 
-pub returns-then-w-i : goal.returns-then-w-i
-returns-then-w-i c =
-    let at = c.loop-i-2 in
-    letters_off _ _ _ c.requires.0 at.i at.invariant.1 at.invariant.0 c.requires.1 (λ j. (c.type_inv.w j).fits) c.loop-i-2-test.true c.if-w-i.true
+pub returns-then-w-place : goal.returns-then-w-place
+returns-then-w-place c =
+    let at = c.loop-place in
+    letters_off _ _ _ c.requires.0 at.place at.invariant.1 at.invariant.0 c.requires.1 (λ j. (c.type_inv.w j).fits) c.loop-place-test.true c.if-w-place.true
 
-pub loop-i-2-preserved : goal.loop-i-2-preserved
-loop-i-2-preserved c =
-    let at = c.loop-i-2 in
-    (at.invariant.0, letters_on _ _ _ c.requires.0 at.i at.invariant.1 at.invariant.0 c.requires.1 (λ j. (c.type_inv.w j).fits) c.loop-i-2-test.true c.if-w-i.false)
+pub loop-place-preserved : goal.loop-place-preserved
+loop-place-preserved c =
+    let at = c.loop-place in
+    (at.invariant.0, letters_on _ _ _ c.requires.0 at.place at.invariant.1 at.invariant.0 c.requires.1 (λ j. (c.type_inv.w j).fits) c.loop-place-test.true c.if-w-place.false)
 
 pub returns : goal.returns
-returns c = letters_end _ _ _ c.requires.0 _ c.loop-i-2.invariant.1 c.loop-i-2-test.false
+returns c = letters_end _ _ _ c.requires.0 _ c.loop-place.invariant.1 c.loop-place-test.false

@@ -1,4 +1,4 @@
--- What `names::has_letters` keeps true in its loops, and what falls.
+-- What `names::has_letters` keeps true in its loops, and what falls in the first.
 use Prim.Native.Nat.{◌-◌, ◌≤◌}
 use lib.ListN.{length as size, take}
 use Rattle.names.proofs.Capitals.{LeftAt}
@@ -10,8 +10,5 @@ invariant-loop-i l = (l.length ≤ size l.w) × LeftAt l.w (take l.length l.lett
 abbrev pub decreases-loop-i : goal.decreases-loop-i
 decreases-loop-i l = l.length - l.i
 
-abbrev pub invariant-loop-i-2 : goal.invariant-loop-i-2
-invariant-loop-i-2 l = (l.length ≤ size l.w) × LeftAt l.w (take l.length l.letters) l.i
-
-abbrev pub decreases-loop-i-2 : goal.decreases-loop-i-2
-decreases-loop-i-2 l = l.length - l.i
+abbrev pub invariant-loop-place : goal.invariant-loop-place
+invariant-loop-place l = (l.length ≤ size l.w) × LeftAt l.w (take l.length l.letters) l.place
