@@ -61,12 +61,10 @@ fn put_name(out: &mut [u8], p: Pen, kind: u32) -> Pen
     ensures { PutsEach (name_pieces kind) p out.old result out.new }
 {
     let mut q = p;
-    let mut row = 0;
-    while row < NAME_COUNT {
+    for row in 0..NAME_COUNT {
         if row as u32 + KIND_POINT == kind {
             q = put_letters(out, q, &NAMES[row], NAME_LENGTHS[row] as usize);
         }
-        row += 1;
     }
     q
 }
@@ -79,12 +77,10 @@ fn put_dimension(out: &mut [u8], p: Pen, dimension: u32) -> Pen
         return p;
     }
     let mut q = pen::put_byte(out, p, b' ');
-    let mut row = 1;
-    while row < ENDING_COUNT {
+    for row in 1..ENDING_COUNT {
         if row as u32 == dimension {
             q = put_letters(out, q, &ENDINGS[row], ENDING_LENGTHS[row] as usize);
         }
-        row += 1;
     }
     q
 }

@@ -16,20 +16,11 @@ returns-then-dimension-eq-DIM_XY c = puts_as (puts_none _ _) (rw (eq-eqb _ _ c.i
 pub loop-row-init : goal.loop-row-init
 loop-row-init c = still_all (endings_all _ c.if-dimension-eq-DIM_XY.false)
 
-pub overflow_cast-row : goal.overflow_cast-row
-overflow_cast-row c = omega (arith, c.loop-row-test.true)
-
 pub overflow_cast-row-then-row-dimension : goal.overflow_cast-row-then-row-dimension
 overflow_cast-row-then-row-dimension c = omega (arith, (ending_row_law _ c.loop-row-test.true).small)
 
 pub put_letters-q-requires : goal.put_letters-q-requires
 put_letters-q-requires c = (ending_row_law _ c.loop-row-test.true).inside
-
-pub overflow_add-row : goal.overflow_add-row
-overflow_add-row c = omega (arith, c.loop-row-test.true)
-
-pub loop-row-smaller : goal.loop-row-smaller
-loop-row-smaller c = omega (arith, c.loop-row-test.true)
 
 pub loop-row-preserved : goal.loop-row-preserved
 loop-row-preserved c =

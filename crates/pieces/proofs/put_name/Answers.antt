@@ -8,23 +8,11 @@ use Rattle.pieces.proofs.put_name.Goals.{then-row-kind, else-row-kind}
 pub loop-row-init : goal.loop-row-init
 loop-row-init c = still_all (names_all _)
 
-pub overflow_cast-row : goal.overflow_cast-row
-overflow_cast-row c = omega (arith, c.loop-row-test.true)
-
-pub overflow_add-row : goal.overflow_add-row
-overflow_add-row c = omega (arith, c.loop-row-test.true)
-
 pub overflow_cast-row-then-row-kind : goal.overflow_cast-row-then-row-kind
 overflow_cast-row-then-row-kind c = omega (arith, (name_row _ c.loop-row-test.true).small)
 
 pub put_letters-q-requires : goal.put_letters-q-requires
 put_letters-q-requires c = (name_row _ c.loop-row-test.true).inside
-
-pub overflow_add-row-in-loop-row : goal.overflow_add-row-in-loop-row
-overflow_add-row-in-loop-row c = omega (arith, c.loop-row-test.true)
-
-pub loop-row-smaller : goal.loop-row-smaller
-loop-row-smaller c = omega (arith, c.loop-row-test.true)
 
 pub loop-row-preserved : goal.loop-row-preserved
 loop-row-preserved c =
