@@ -1,11 +1,11 @@
 // The walk over node rows that every later entry takes: over those of a slice, or over rows that are given one by one.
 #![tactic(auto)]
 
-ghost use Rattle.std.specs.Prelude.{◌≡◌, true, leb, ◌+◌, ◌<◌};
+ghost use Rattle.std.specs.Prelude.{◌≡◌, true};
 ghost use Rattle.store.specs.Rows.{row, row_at};
 ghost use Rattle.nodes.specs.Nodes.{visit_of, may_open, frame_of};
 ghost use Rattle.walk.specs.declared.Coming.TheVariants.{Child};
-ghost use Rattle.walk.specs.Walk.{frames, HasChild, beginning, coming_in, coming_next, passing_leaf, pushing, meeting, wanted_from, entering, has_ended, last_met, walk_step};
+ghost use Rattle.walk.specs.Walk.{HasChild, beginning, coming_next, passing_leaf, pushing, meeting, wanted_from, entering, has_ended, last_met, walk_step};
 
 use kinds::KIND_GEOMETRYCOLLECTION;
 use nodes::{Frame, Met, NO_KIND, Visit};
@@ -79,47 +79,25 @@ pub fn start(frames: &mut [Frame; FRAMES]) -> Walk
     }
 }
 
-// What comes next in the innermost frame.
-fn coming_in(f: Frame, w: Walk) -> Coming
-    requires { w.top < frames }
-    ensures { result ≡ coming_in f w }
+// What comes next of a walk, by its innermost frame.
+pub fn next(frames: &[Frame; FRAMES], w: Walk) -> Coming
+    ensures { result ≡ coming_next frames.now w }
 {
+    if FRAMES <= w.top {
+        return Coming::Last;
+    }
+    let f = frames[w.top];
     if f.next < f.parts {
         return Coming::Child(f);
     }
     if f.kind == NO_KIND {
         return Coming::Last;
     }
-    Coming::End(
-        f.row,
-        w.row.saturating_sub(f.row),
-        Walk {
-            row: w.row,
-            number: w.number,
-            top: w.top + 1,
-        },
-    )
-}
-
-// What comes next of a walk.
-pub fn next(frames: &[Frame; FRAMES], w: Walk) -> Coming
-    ensures { result ≡ coming_next frames.now w }
-{
-    let top = w.top;
-    if top < FRAMES {
-        return coming_in(frames[top], w);
-    }
-    Coming::Last
-}
-
-// Whether of `count` numbers there are `need` from `number` on.
-fn has_numbers(count: usize, number: usize, need: usize) -> bool
-    ensures { result ≡ leb (number + need) count }
-{
-    if count < number {
-        return false;
-    }
-    need <= count - number
+    let outer = Walk {
+        top: w.top + 1,
+        ..w
+    };
+    Coming::End(f.row, w.row.saturating_sub(f.row), outer)
 }
 
 // A node without child rows is met: it takes its numbers.
@@ -127,14 +105,14 @@ fn pass(frames: &mut [Frame; FRAMES], count: usize, w: Walk, v: Visit) -> Option
     requires { HasChild w v }
     ensures { (result, frames.new) ≡ passing_leaf frames.old count w v }
 {
-    let need = nodes::numbers_of(v);
-    if !has_numbers(count, v.number, need) {
+    let number = v.number.checked_add(nodes::numbers_of(v))?;
+    if count < number {
         return None;
     }
     frames[w.top].next = v.parent.next + 1;
     Some(Walk {
         row: w.row + 1,
-        number: v.number + need,
+        number,
         top: w.top,
     })
 }
@@ -144,16 +122,16 @@ fn push(frames: &mut [Frame; FRAMES], w: Walk, v: Visit) -> Option<Walk>
     requires { HasChild w v }
     ensures { (result, frames.new) ≡ pushing frames.old w v }
 {
-    let top = w.top;
-    if !nodes::may_open(v) | (top == 0) {
+    if !nodes::may_open(v) {
         return None;
     }
-    frames[top].next = v.parent.next + 1;
-    frames[top - 1] = opened(v);
+    let top = w.top.checked_sub(1)?;
+    frames[w.top].next = v.parent.next + 1;
+    frames[top] = opened(v);
     Some(Walk {
         row: w.row + 1,
         number: v.number,
-        top: top - 1,
+        top,
     })
 }
 
@@ -211,12 +189,7 @@ pub fn enter(
         parts,
         parent: frames[top],
     };
-    let here = Walk {
-        row: w.row,
-        number: w.number,
-        top,
-    };
-    meet(frames, count, here, v)
+    meet(frames, count, Walk { top, ..w }, v)
 }
 
 // Whether all that was opened has ended and no number is left.

@@ -1,25 +1,17 @@
 -- `walk::push` meets its contract: by whether it may be opened and a frame is left.
-use mathlib.Core.Path.{sym, ◌∙◌}
 use native.Mathlib.Omega.{arith}
-use lib.Dec.{eqb}
-use borrow.Author.Tests.{eqb-false}
+use borrow.Author.Tests.{eq-eqb, ne_eqb}
 use Rattle.walk.specs.Walk.{put_next, pushing}
-use Rattle.walk.proofs.Sizes.{not_pushed, pushed}
 use Rattle.walk.proofs.push.Goals as goal
 
-pub returns-then-may_open-top : goal.returns-then-may_open-top
+pub returns-then-not-may_open : goal.returns-then-not-may_open
 unfolding pushing
-returns-then-may_open-top c = rw (← c.may_open.ensures, not_pushed c.may_open.result (eqb c.args.w.top 0) c.if-may_open-top.true)
+returns-then-not-may_open c = rw (← c.if-not-may_open.ensures)
 
-pub overflow_sub-top : goal.overflow_sub-top
-overflow_sub-top c = omega (arith, eqb-false c.args.w.top 0 (pushed c.may_open.result (eqb c.args.w.top 0) c.if-may_open-top.false).1)
-
-pub opened-requires : goal.opened-requires
-opened-requires c = sym c.may_open.ensures ∙ (pushed c.may_open.result (eqb c.args.w.top 0) c.if-may_open-top.false).0
-
-pub overflow_sub-result : goal.overflow_sub-result
-overflow_sub-result c = omega (arith, eqb-false c.args.w.top 0 (pushed c.may_open.result (eqb c.args.w.top 0) c.if-may_open-top.false).1)
+pub returns-in_err-top : goal.returns-in_err-top
+unfolding pushing
+returns-in_err-top c = rw (c.from_residual.ensures, ← c.if-not-may_open.ensures, eq-eqb c.args.w.top 0 (omega (arith, c.in_err-top.ensures)))
 
 pub returns : goal.returns
 unfolding pushing put_next
-returns c = let p = pushed c.may_open.result (eqb c.args.w.top 0) c.if-may_open-top.false in rw (← c.may_open.ensures, p.0, p.1, ← c.opened.ensures)
+returns c = rw (← c.if-not-may_open.ensures, ne_eqb c.args.w.top 0 (λ z. omega (arith, c.in_ok-top.ensures)), c.opened.ensures, c.in_ok-top.ensures.1)
