@@ -1,15 +1,13 @@
 -- Laws of the strict check's rules, a step at a time.
 -- Assumes nothing.
-use mathlib.Core.Path.{◌≡◌, refl, ap, ◌∙◌}
-use mathlib.Core.Bool.{Bool, true, false, and-false, and-eq-true_iff}
+use mathlib.Core.Path.{◌≡◌, refl, ap, ap₂, sym, subst, ◌∙◌}
+use mathlib.Core.Bool.{Bool, true, false, ◌&&◌, and-false, and-eq-true_iff}
 use mathlib.Core.List.{List, [], ◌∷◌}
-use Prim.Native.Nat.{ℕ, suc, ◌+◌, ◌-◌, ◌*◌, ◌≤◌, ◌<◌}
+use Prim.Native.Nat.{ℕ, zero, suc, ◌+◌, ◌-◌, ◌*◌, ◌≤◌, ◌<◌}
 use native.Mathlib.Omega.{arith}
-use native.Mathlib.Numerals.{add-one}
-use native.Mathlib.Nat.{suc-mul}
-use borrow.Author.Tests.{eq-eqb, ne_eqb, eqb-true}
-use lib.ListN.{length, get_or, drop, drop_of_length-le}
-use lib.Seq.{drop-cons}
+use native.Mathlib.Nat.{add-zero, suc-mul}
+use borrow.Author.Tests.{eq-eqb, eqb-true}
+use lib.Dec.{eqb}
 use Rattle.kinds.specs.Kinds.{kind_line_string, width}
 use Rattle.nodes.specs.declared.Visit.{Visit}
 use Rattle.walk.specs.Walk.{CoordinatesIn}
@@ -18,59 +16,52 @@ use Rattle.store.specs.Rows.{number_room}
 use Rattle.strict.specs.Rules.{same_bytes, same_texts, is_ring}
 
 -- ---- bytes
-pub bytes_differ : (l m : List ℕ) → (length l ≡ length m → ⊥) → false ≡ same_bytes l m
+same_bytes_law : (l : List ℕ) → same_bytes l l ≡ true
+unfolding same_bytes
+same_bytes_law [] = refl
+same_bytes_law (a ∷ l) = rw (eq-eqb a a refl, same_bytes_law l)
+
+bytes_differ : (l m : List ℕ) → (l ≡ m → ⊥) → same_bytes l m ≡ false
 unfolding same_bytes
 bytes_differ [] [] h = absurd (h refl)
 bytes_differ [] (b ∷ m) h = refl
 bytes_differ (a ∷ l) [] h = refl
-bytes_differ (a ∷ l) (b ∷ m) h = rw (← bytes_differ l m (λ e. h (ap suc e)), and-false)
-
-module _ (l m : List ℕ) (i : ℕ) (same : length l ≡ length m) where
-  pub bytes_on : i < length l → get_or l i 0 ≡ get_or m i 0 → same_bytes (drop (i + 1) l) (drop (i + 1) m) ≡ same_bytes (drop i l) (drop i m)
-  unfolding same_bytes
-  bytes_on h e =
-      let k : i < length m = omega arith in
-      rw (add-one, drop-cons l i 0, drop-cons m i 0, eq-eqb (get_or l i 0) (get_or m i 0) e)
-
-  pub bytes_off : i < length l → (get_or l i 0 ≡ get_or m i 0 → ⊥) → false ≡ same_bytes (drop i l) (drop i m)
-  unfolding same_bytes
-  bytes_off h e =
-      let k : i < length m = omega arith in
-      rw (drop-cons l i 0, drop-cons m i 0, ne_eqb (get_or l i 0) (get_or m i 0) e)
-
-  pub bytes_end : length l ≤ i → true ≡ same_bytes (drop i l) (drop i m)
-  unfolding same_bytes
-  bytes_end h = rw (drop_of_length-le l {i = i} h, drop_of_length-le m {i = i} (omega arith))
+bytes_differ (a ∷ l) (b ∷ m) h = go (eqb a b) refl (bytes_differ l m)
+  where
+    go : (t : Bool) → eqb a b ≡ t → ((l ≡ m → ⊥) → same_bytes l m ≡ false) → (t && same_bytes l m) ≡ false
+    go true e ih = ih (λ z. h (ap₂ (λ x y. x ∷ y) (eqb-true a b e) z))
+    go false e ih = refl
 
 -- ---- number texts
-module _ (text numbers : List ℕ) (first last n i : ℕ) where
-  abbrev left : ℕ → Bool
-  left k = same_texts text numbers (first + k) (last + k) (n - k)
+module _ (text numbers : List ℕ) where
+  abbrev Same : ℕ → ℕ → Type 0
+  Same i j = text_at text numbers i ≡ text_at text numbers j
 
-  step : i < n → n - i ≡ suc (n - (i + 1))
-  step h = omega arith
+  next : (k i : ℕ) → k + suc i ≡ k + 1 + i
+  next k i = omega arith
 
-  pub texts_on : i < n → same_bytes (text_at text numbers (first + i)) (text_at text numbers (last + i)) ≡ true → left (i + 1) ≡ left i
+  subst₂ : (P : ℕ → ℕ → Type 0) {a b x y : ℕ} → a ≡ x → b ≡ y → P a b → P x y
+  subst₂ P {a} {b} {x} {y} p q t = subst (P x) q (subst (λ z. P z b) p t)
+
+  all_same : (first last n : ℕ) → ((i : ℕ) → i < n → Same (first + i) (last + i)) → same_texts text numbers first last n ≡ true
   unfolding same_texts
-  texts_on h t =
-      let a : first + (i + 1) ≡ first + i + 1 = omega arith in
-      let b : last + (i + 1) ≡ last + i + 1 = omega arith in
-      rw (step h, t, a, b)
+  all_same first last zero h = refl
+  all_same first last (suc n) h =
+      let here : Same first last = subst₂ Same (add-zero first) (add-zero last) (h 0 (omega arith)) in
+      let rest : (i : ℕ) → i < n → Same (first + 1 + i) (last + 1 + i) = λ i l. subst₂ Same (next first i) (next last i) (h (suc i) (omega arith)) in
+      rw (here, same_bytes_law (text_at text numbers last)) (all_same (first + 1) (last + 1) n rest)
 
-  pub texts_off : i < n → same_bytes (text_at text numbers (first + i)) (text_at text numbers (last + i)) ≡ false → false ≡ left i
+  some_differ : (first last n i : ℕ) → i < n → (Same (first + i) (last + i) → ⊥) → same_texts text numbers first last n ≡ false
   unfolding same_texts
-  texts_off h t = rw (step h, t)
+  some_differ first last zero i l h = absurd (omega arith)
+  some_differ first last (suc n) zero l h = rw (bytes_differ (text_at text numbers first) (text_at text numbers last) (λ e. h (subst₂ Same (sym (add-zero first)) (sym (add-zero last)) e)))
+  some_differ first last (suc n) (suc i) l h =
+      rw (some_differ (first + 1) (last + 1) n i (omega arith) (λ e. h (subst₂ Same (sym (next first i)) (sym (next last i)) e)), and-false)
 
-  pub texts_end : n ≤ i → true ≡ left i
-  unfolding same_texts
-  texts_end h = let z : n - i ≡ 0 = omega arith in rw z
-
-pub texts_start : (text numbers : List ℕ) (first last n : ℕ) → same_texts text numbers (first + 0) (last + 0) (n - 0) ≡ same_texts text numbers first last n
-texts_start text numbers first last n =
-    let a : first + 0 ≡ first = omega arith in
-    let b : last + 0 ≡ last = omega arith in
-    let z : n - 0 ≡ n = omega arith in
-    rw (a, b, z)
+  -- each has the text of the other, or some has not
+  pub texts_told : (first last n : ℕ) (b : Bool) → (b ≡ true → (i : ℕ) → i < n → Same (first + i) (last + i)) → (b ≡ false → (i : ℕ) × (i < n) × (Same (first + i) (last + i) → ⊥)) → b ≡ same_texts text numbers first last n
+  texts_told first last n true good bad = sym (all_same first last n (good refl))
+  texts_told first last n false good bad = let b = bad refl in sym (some_differ first last n b.0 b.1 b.2)
 
 -- ---- indexes
 -- n coordinates of w numbers are one and the others

@@ -7,7 +7,7 @@ ghost use Rattle.store.specs.Rows.{number_room};
 ghost use Rattle.nodes.specs.declared.Met.TheVariants.{Node};
 ghost use Rattle.walk.specs.Walk.{CoordinatesIn, NumbersIn};
 ghost use Rattle.shape.specs.Walk.{whole_walk};
-ghost use Rattle.strict.specs.Rules.{no_letter, same_bytes, same_texts, is_ring, is_short, fails_a, fails_b, fails_c, fails_d, closed, fault, BothFit};
+ghost use Rattle.strict.specs.Rules.{no_letter, same_texts, is_ring, is_short, fails_a, fails_b, fails_c, fails_d, closed, fault, BothFit};
 ghost use Rattle.strict.specs.Strict.{answer, first_fault, or_else, of_walk, strict_of};
 
 use kinds::{KIND_GEOMETRYCOLLECTION, KIND_LINESTRING, KIND_POLYGON};
@@ -28,37 +28,14 @@ pub struct StrictAnswer {
     pub row: usize,
 }
 
-fn same_bytes(a: &[u8], b: &[u8]) -> bool
-    ensures { result ≡ same_bytes a.now b.now }
-{
-    if a.len() != b.len() {
-        return false;
-    }
-    let mut i = 0;
-    while i < a.len() {
-        if a[i] != b[i] {
-            return false;
-        }
-        i += 1;
-    }
-    true
-}
-
 // Whether `width` numbers from `first` on have the texts of those from `last` on.
 fn same_texts(text: &[u8], numbers: &[u32], first: usize, last: usize, width: usize) -> bool
     requires { BothFit first last width }
     ensures { result ≡ same_texts text.now numbers.now first last width }
 {
-    let mut i = 0;
-    while i < width {
-        let a = shape::number_text(text, numbers, first + i);
-        let b = shape::number_text(text, numbers, last + i);
-        if !same_bytes(a, b) {
-            return false;
-        }
-        i += 1;
-    }
-    true
+    (0..width).all(|i| {
+        shape::number_text(text, numbers, first + i) == shape::number_text(text, numbers, last + i)
+    })
 }
 
 // Whether a ring's first and last coordinate are the same.
