@@ -2,7 +2,7 @@
 -- Assumes nothing.
 use mathlib.Core.Path.{◌≡◌, refl, sym, ap, ◌∙◌}
 use mathlib.Core.Bool.{Bool, true, false, false≢true, cond, ◌&&◌}
-use Rattle.std.specs.Prelude.{Some, None, Ok, Err}
+use Rattle.std.specs.Prelude.{Ok, Err}
 use mathlib.Core.List.{List, []}
 use Prim.Native.Nat.{ℕ, suc, ◌+◌, ◌-◌, ◌≤◌, ◌<◌, ◌^◌}
 use native.Mathlib.Omega.{arith}
@@ -170,8 +170,8 @@ module _ (text : List ℕ) (i : ℕ) where
 pub kept_all : {text : List ℕ} {used : ℕ} {ms : List ℕ} → Unmoved text used ms ms
 kept_all = record { same = refl; spans = λ m h. refl }
 
-pub no_plains : {text : List ℕ} {w i used : ℕ} {ms ms' : List ℕ} → Unmoved text used ms ms' → MetPlains text w i used ms None ms'
-no_plains k = record { kept = k; numbers = λ end e. cc }
+pub no_plains : {text : List ℕ} {w i used : ℕ} {ms ms' : List ℕ} → Unmoved text used ms ms' → MetPlains text w i used ms i ms'
+no_plains k = record { kept = k; numbers = λ h. absurd (omega arith) }
 
 -- one plain number and its row
 module _ {text : List ℕ} {i used : ℕ} {ms ms' : List ℕ} {r : Plain} (v : length text + 2 < 2 ^ 32) (x : PlainNumber text i r) (u : used < number_room ms) (j : ms' ≡ put_span ms used i (r.end - i)) where
@@ -196,8 +196,8 @@ one_more {used = used} {k = k} v a x u j =
     let e : used + (k + 1) ≡ suc (used + k) = omega arith in
     rw (e, add-one) (more a (plain_kept v x u j).same (λ p n. rw add-one at (plain_done v x u j p n)))
 
-pub all_read : {text : List ℕ} {width k i used r : ℕ} {ms ms' : List ℕ} → k ≤ width → width ≤ k → Unmoved text used ms ms' → Numbers text i used ms k (used + k) r ms' → MetPlains text width i used ms (Some r) ms'
-all_read {width = width} {k = k} {r = r} l h a c = let e : width ≡ k = omega arith in rw e (record { kept = a; numbers = λ end y. let z : end ≡ r = cc in rw z c })
+pub all_read : {text : List ℕ} {width k i used r : ℕ} {ms ms' : List ℕ} → k ≤ width → width ≤ k → Unmoved text used ms ms' → Numbers text i used ms k (used + k) r ms' → MetPlains text width i used ms r ms'
+all_read {width = width} {k = k} l h a c = let e : width ≡ k = omega arith in rw e (record { kept = a; numbers = λ z. c })
 
 -- as many as the dimension asks for are a coordinate
 module _ {text : List ℕ} {i used : ℕ} {ms : List ℕ} (d n : ℕ) where

@@ -1,5 +1,5 @@
 -- What a call of each part of the reader of coordinates comes to: it is lent the number rows only, and says its equation for all node rows.
-use Rattle.std.specs.Prelude.{◌≡◌, Option, Some, Ok, Err, List, ℕ, zero, suc, ◌+◌, ◌≤◌, ◌<◌, ◌^◌, length}
+use Rattle.std.specs.Prelude.{◌≡◌, Ok, Err, List, ℕ, zero, suc, ◌+◌, ◌≤◌, ◌<◌, ◌^◌, length}
 use Rattle.tokenizer.specs.Tokens.{cursor_at}
 use Rattle.token_stream.specs.Stream.{stream}
 use Rattle.token_stream.specs.Sound.{Sound}
@@ -59,10 +59,10 @@ pub data Numbers (text : List ℕ) (i used : ℕ) (ms : List ℕ) : ℕ → ℕ 
       {k u c r : ℕ} {ms₁ ms₂ : List ℕ} → Numbers text i used ms k u c ms₁ → length ms₂ ≡ length ms₁ →
       ((e n : ℕ) → MetNumber text e (state (cursor_at c) n u) ms₁ (Ok (spot r n (suc u))) ms₂) → Numbers text i used ms (suc k) (suc u) r ms₂
 
--- where they were all read, up to `end`, so many numbers were
-pub record MetPlains (text : List ℕ) (width i used : ℕ) (ms : List ℕ) (r : Option ℕ) (ms' : List ℕ) : Type 0 where
+-- where r lies behind i, so many numbers were read
+pub record MetPlains (text : List ℕ) (width i used : ℕ) (ms : List ℕ) (r : ℕ) (ms' : List ℕ) : Type 0 where
   pub kept : Unmoved text used ms ms'
-  pub numbers : (end : ℕ) → r ≡ Some end → Numbers text i used ms width (used + width) end ms'
+  pub numbers : i < r → Numbers text i used ms width (used + width) r ms'
 
 -- what is asked of a state before a bare point is read, whose first token is held
 pub record FitsHeld (text ns ms : List ℕ) (s : State) : Type 0 where

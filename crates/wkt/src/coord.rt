@@ -80,28 +80,32 @@ pub(crate) fn by_tokens(
     then_number(text, numbers, has_m(dimension), NO_M, z)
 }
 
-// The plain numbers of a coordinate and their rows: the place to read on from, or none where there are fewer, or no room for
+// The plain numbers of a coordinate and their rows: the place to read on from, or `at` where there are fewer, or no room for
 // them.
+// Kept (1): as an `Option` each turn of the loop over a fraction's digits sets both words of `None`: 11.5 instructions a byte
+// where this takes 10.4, on polygons.
 pub(crate) fn plain_coord(
     text: &[u8],
     numbers: &mut [u32],
     width: usize,
     at: usize,
     used: usize,
-) -> Option<usize>
+) -> usize
     requires { (length text.now + 2 < 2 ^ 32) × (used ≤ number_room numbers.old) × (width ≤ 4) }
     ensures { MetPlains text.now width at used numbers.old result numbers.new }
 {
     if store::number_room(numbers) - used < width {
-        return None;
+        return at;
     }
     let mut here = at;
     for k in 0..width {
-        let number = plain_number(text, here)?;
+        let Some(number) = plain_number(text, here) else {
+            return at;
+        };
         store::put_number(numbers, used + k, here as u32, (number.end - here) as u32);
         here = number.next;
     }
-    Some(here)
+    here
 }
 
 // A coordinate where nothing is held: plain numbers at once, whatever else token by token.
@@ -110,7 +114,8 @@ fn coord(text: &[u8], numbers: &mut [u32], dimension: u32, s: Spot) -> Result<Sp
     ensures { MetCoord text.now dimension (state_of s) numbers.old result numbers.new }
 {
     let width = width_of(dimension);
-    if let Some(end) = plain_coord(text, numbers, width, s.at, s.numbers) {
+    let end = plain_coord(text, numbers, width, s.at, s.numbers);
+    if s.at < end {
         return Ok(Spot {
             at: end,
             nodes: s.nodes,

@@ -34,7 +34,8 @@ impl InParens for Point {
         // Kept (2): `coord` reads the same, but with a second caller it is no part of the loop over coordinates any more: a
         // third more instructions a byte on line strings of short numbers.
         let width = width_of(dimension);
-        if let Some(end) = plain_coord(text, numbers, width, s.at, s.numbers) {
+        let end = plain_coord(text, numbers, width, s.at, s.numbers);
+        if s.at < end {
             let here = Spot {
                 at: end,
                 nodes: s.nodes,
