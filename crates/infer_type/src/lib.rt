@@ -62,47 +62,30 @@ fn is_looked(b: u8) -> bool
 }
 
 // The place of the first byte that is not trimmed, or the end.
+#[tactic(auto, unfolding(crate::specs::Part::trimmed_at))]
 fn trim_start(text: &[u8]) -> usize
     ensures { result ≡ trimmed_at text.now }
 {
-    let mut i = 0;
-    while i < text.len() {
-        if is_trimmed(text[i]) {
-            i += 1;
-        } else {
-            return i;
-        }
-    }
-    text.len()
+    scan::first_not(text, 0, is_trimmed)
 }
 
 // The place of the first `(` or non-ASCII byte from `from` on, or the end.
 fn looked_end(text: &[u8], from: usize) -> usize
     ensures { result ≡ first_not is_looked text.now from }
 {
-    let mut i = from;
-    while i < text.len() {
-        if is_looked(text[i]) {
-            i += 1;
-        } else {
-            return i;
-        }
-    }
-    text.len()
+    scan::first_not(text, from, is_looked)
 }
 
 // The place where `word` first stands in `part`, or the end.
 fn find_word(part: &[u8], word: &[u8]) -> usize
     ensures { result ≡ first_word word.now part.now }
 {
-    let mut i = 0;
-    while i < part.len() {
+    for i in 0..part.len() {
         if words::starts_with_word(&part[i..], word) {
             return i;
         }
-        i += 1;
     }
-    i
+    part.len()
 }
 
 // The dimension whose letters stand anywhere in `part`: `ZM`, else `Z`, else `M`.
@@ -111,15 +94,13 @@ fn dimension_in(part: &[u8]) -> u32
 {
     let mut has_z = false;
     let mut has_m = false;
-    let mut i = 0;
-    while i < part.len() {
+    for i in 0..part.len() {
         let rest = &part[i..];
         if names::starts_with_ending(rest, kinds::DIM_XYZM) {
             return kinds::DIM_XYZM;
         }
         has_z = has_z | names::starts_with_ending(rest, kinds::DIM_XYZ);
         has_m = has_m | names::starts_with_ending(rest, kinds::DIM_XYM);
-        i += 1;
     }
     if has_z {
         kinds::DIM_XYZ
