@@ -5,13 +5,11 @@ use mathlib.Core.Bool.{cond, true, false, true≢false, false≢true}
 use mathlib.Core.List.{List}
 use Prim.Native.Nat.{ℕ}
 use native.Mathlib.Omega.{arith}
-use lib.Dec.{T}
 use borrow.Author.Tests.{le-ltb}
 use lib.IntN.{ℤ, pos, negsuc, nat_abs}
 use lib.Signed.{lt_z, non_neg}
-use mir.Syntax.{w64}
-use mir.Val.{Fits, SFits}
-use Rattle.bounds.specs.Bounds.{Bounds, first_at, bounds_at, settled, closed}
+use Rattle.bounds.specs.declared.Bounds.{Bounds}
+use Rattle.bounds.specs.Bounds.{first_at, bounds_at, settled, closed}
 
 pub below_nought : (z : ℤ) → lt_z z (pos 0) ≡ true → non_neg z ≡ false
 below_nought (pos n) e = absurd (false≢true (sym (le-ltb n 0 (omega arith)) ∙ e))
@@ -20,11 +18,6 @@ below_nought (negsuc n) e = refl
 pub not_below : (z : ℤ) → lt_z z (pos 0) ≡ false → non_neg z ≡ true
 not_below (pos n) e = refl
 not_below (negsuc n) e = absurd (true≢false e)
-
--- a number that isn't negative is its size
-pub its_size : (z : ℤ) → SFits w64 z → lt_z z (pos 0) ≡ false → T (non_neg z) × Fits w64 (nat_abs z)
-its_size (pos n) f e = (tt, record { fits = omega (arith, f.sfits) })
-its_size (negsuc n) f e = absurd (true≢false e)
 
 module _ (t : List ℤ) (i : ℕ) (f : ℤ) (first : f ≡ first_at t i) where
   pub stays_open : lt_z f (pos 0) ≡ true → t ≡ closed t i

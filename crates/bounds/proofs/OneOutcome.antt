@@ -7,26 +7,21 @@ use lib.IntN.{ℤ}
 use Rattle.lists.specs.One.{One}
 use Rattle.lists.proofs.One.{one}
 use Rattle.bounds.specs.declared.BoxAnswer.{BoxAnswer}
-use Rattle.bounds.specs.Bounds.{lower, higher, box, opened, settled, closed, cleared, Refuses}
+use Rattle.bounds.specs.declared.Bounds.{Bounds}
+use Rattle.bounds.specs.Bounds.{merge, opened, settled, closed, Refuses}
 
-pub lower_of_one : (a b : ℤ) → One (λ r. r ≡ lower a b)
-lower_of_one a b = one
-
-pub higher_of_one : (a b : ℤ) → One (λ r. r ≡ higher a b)
-higher_of_one a b = one
+pub around_one : (a b : Bounds) → One (λ r. r ≡ merge a b)
+around_one a b = one
 
 module _ (table : List ℤ) where
   pub open_one : (row parent : ℕ) → One (λ left. left ≡ opened table row parent)
   open_one row parent = one
 
-  pub settle_one : (row parent : ℕ) (left right bottom top : ℤ) → One (λ after. after ≡ settled table row parent (box left right bottom top))
-  settle_one row parent left right bottom top = one
+  pub settle_one : (row parent : ℕ) (b : Bounds) → One (λ after. after ≡ settled table row parent b)
+  settle_one row parent b = one
 
   pub close_one : (row : ℕ) → One (λ left. left ≡ closed table row)
   close_one row = one
-
-  pub clear_one : (from : ℕ) → One (λ left. left ≡ cleared table from)
-  clear_one from = one
 
 -- two outcomes of `refuse`: the answer and the table
 pub refuse_one : {number place : ℕ} {table : List ℤ} {a a' : BoxAnswer} {left left' : List ℤ} → Refuses number place table a left → Refuses number place table a' left' → (a ≡ a') × (left ≡ left')

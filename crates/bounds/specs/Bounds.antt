@@ -1,7 +1,9 @@
 -- Boxes, and rows of them in a lent table (request 2026-03: "Five i64 a row: 1, low X, high X, low Y, high Y; all 0 without coordinates.").
-use Rattle.std.specs.Prelude.{◌≡◌, Bool, cond, List, [], ◌∷◌, ◌++◌, ℕ, ◌+◌, ◌-◌, ◌*◌, ◌/◌, ltb, ℤ, pos, neg_ℤ, nat_abs, length, get_or, take, replicate}
+use Rattle.std.specs.Prelude.{◌≡◌, Bool, cond, List, [], ◌∷◌, ◌++◌, ℕ, ◌+◌, ◌-◌, ◌*◌, ◌/◌, ltb, ℤ, pos, neg_ℤ, nat_abs, length, get_or, replicate}
 use Rattle.std.specs.Int.Signed.{lt_z, non_neg}
 use Rattle.std.proofs.lemmas.List.Edits.{sets}
+use Rattle.store.specs.Rows.{cleared_to}
+use Rattle.bounds.specs.declared.Bounds.{Bounds}
 use Rattle.bounds.specs.declared.BoxAnswer.{BoxAnswer}
 
 -- ---- boxes
@@ -13,12 +15,6 @@ abbrev pub higher : ℤ → ℤ → ℤ
 higher a b = cond (lt_z a b) b a
 
 -- low X, high X, low Y, high Y
-pub record Bounds : Type 0 where
-  pub left : ℤ
-  pub right : ℤ
-  pub bottom : ℤ
-  pub top : ℤ
-
 abbrev pub box : ℤ → ℤ → ℤ → ℤ → Bounds
 box left right bottom top = record { left = left; right = right; bottom = bottom; top = top }
 
@@ -108,8 +104,8 @@ zeros n = replicate n (pos 0)
 abbrev pub padded : List ℤ → ℕ → List ℤ
 padded l n = l ++ zeros (n - length l)
 
-unfoldable pub cleared : List ℤ → ℕ → List ℤ
-cleared t from = take from t ++ zeros (length t - from)
+abbrev pub cleared : List ℤ → ℕ → List ℤ
+cleared t from = cleared_to (pos 0) t from
 
 abbrev pub box_answer : ℕ → ℕ → BoxAnswer
 box_answer number place = record { number = number; place = place }

@@ -1,6 +1,8 @@
 -- Worked examples of this crate's definitions, by computation: boxes, rows in a table, and each step by which it is filled.
 use Rattle.std.specs.Prelude.{◌≡◌, refl, true, false, List, [], ◌∷◌, ◌++◌, ℕ, ◌^◌, ℤ, pos, neg_ℤ}
-use Rattle.bounds.specs.Bounds.{lower, higher, Bounds, box, merge, edge, nothing, is_nothing, box_width, box_room, box_row, five, five_of, no_box, done_row, put_five, box_cell, first_at, bounds_at, opened, widened, widened_above, closed, zeros, padded, cleared, box_answer}
+use Rattle.store.specs.Rows.{cleared_to}
+use Rattle.bounds.specs.declared.Bounds.{Bounds}
+use Rattle.bounds.specs.Bounds.{lower, higher, box, merge, edge, nothing, is_nothing, box_width, box_room, box_row, five, five_of, no_box, done_row, put_five, box_cell, first_at, bounds_at, opened, widened, widened_above, closed, zeros, padded, cleared, box_answer}
 
 neg : ℕ → ℤ
 neg n = neg_ℤ (pos n)
@@ -29,7 +31,7 @@ fresh : ℕ → List ℤ
 fresh p = pos p ∷ pos 1000000000000000000 ∷ neg 1000000000000000000 ∷ pos 1000000000000000000 ∷ neg 1000000000000000000 ∷ []
 
 all : ℕ
-unfolding neg table two bare a b fresh merge done_row put_five box_cell opened widened closed cleared
+unfolding neg table two bare a b fresh merge done_row put_five box_cell opened widened closed cleared_to
 all = 0
 
 -- the lower and the higher of two, of either sign, and of equals

@@ -7,7 +7,9 @@ use Prim.Native.Nat.{ℕ, ◌+◌, ◌≤◌, ◌<◌}
 use lib.Dec.{eqb, ltb}
 use lib.ListN.{length, get_or}
 use Rattle.lists.proofs.Cases.{and_both}
-use Rattle.rounding.specs.declared.Reckoned.TheVariants.{Named, Beyond, NoNumber}
+use Rattle.std.specs.Prelude.{Err}
+use Rattle.rounding.specs.declared.NoSides.{NoSides}
+use Rattle.rounding.specs.declared.NoSides.TheVariants.{Named, Beyond, NoNumber}
 use Rattle.rounding.specs.Rounding.{is_over, rounded}
 use Rattle.scan.specs.Bytes.{is_digit, is_sign, is_point}
 use Rattle.scan.specs.Front.{rest, begins, after_one, after_all, is_nil}
@@ -20,7 +22,7 @@ use Rattle.number.proofs.Text.{nothing, not_named, not_decimal}
 use Rattle.decimal.specs.Decimal.{Decimal, unsigned_decimal, written}
 use Rattle.decimal.specs.Units.{whole_units, is_left, is_far, is_large, low, high}
 use Rattle.decimal.specs.Reckon.{sides_of, reckoned}
-use Rattle.decimal.specs.Code.{SizeIs, PlainSize}
+use Rattle.decimal.specs.Code.{SizeIs, PlainSize, TellsSize}
 use Rattle.decimal.proofs.Exact.{large_over}
 use Rattle.decimal.proofs.Plainly.{bare, minus_is}
 
@@ -66,17 +68,17 @@ module _ (w : List ℕ) (minus : Bool) (whole : ℕ) (left : Bool) (p : PlainSiz
       ap (λ (t : Bool). rounded t whole left) p.sign ∙ size_sides (written w) whole left plain_is_size ∙ rw (plain_lexeme w p.plain, named)
 
 -- ---- any text
-pub no_lexeme : (w : List ℕ) → is_lexeme w ≡ false → NoNumber ≡ reckoned w
+pub no_lexeme : (w : List ℕ) → is_lexeme w ≡ false → Err NoNumber ≡ reckoned w
 unfolding reckoned
 no_lexeme w e = rw e
 
 module _ (w : List ℕ) (from : ℕ) (signed : from ≡ after_one_at is_sign w 0) where
-  pub only_sign : length w ≤ from → NoNumber ≡ reckoned w
+  pub only_sign : length w ≤ from → Err NoNumber ≡ reckoned w
   unfolding is_lexeme
   only_sign h = no_lexeme w (ap is_unsigned (sym (bare w from signed) ∙ rest_past w from h) ∙ nothing)
 
   module _ (h : from < length w) (digit : Bool) (d : digit ≡ is_digit (get_or w from 0)) where
-    pub is_word : is_lexeme w ≡ true → (digit || is_point (get_or w from 0)) ≡ false → Named ≡ reckoned w
+    pub is_word : is_lexeme w ≡ true → (digit || is_point (get_or w from 0)) ≡ false → Err Named ≡ reckoned w
     unfolding reckoned is_lexeme is_unsigned
     is_word good f =
         let l = after_one is_sign w in
@@ -95,7 +97,7 @@ module _ (w : List ℕ) (from : ℕ) (signed : from ≡ after_one_at is_sign w 0
       unfolding is_lexeme is_unsigned
       lexeme_is = ap (λ (b : Bool). b || is_decimal is_nil (after_one is_sign w)) no_word ∙ ap (is_decimal is_nil) (sym (bare w from signed))
 
-      pub no_decimal : is_decimal is_nil (rest w from) ≡ false → NoNumber ≡ reckoned w
+      pub no_decimal : is_decimal is_nil (rest w from) ≡ false → Err NoNumber ≡ reckoned w
       no_decimal f = no_lexeme w (lexeme_is ∙ f)
 
       module _ (v : is_decimal is_nil (rest w from) ≡ true) where
@@ -111,6 +113,12 @@ module _ (w : List ℕ) (from : ℕ) (signed : from ≡ after_one_at is_sign w 0
         is_sized_law whole left s =
             size_sides (unsigned_decimal (eqb (get_or w 0 0) 45) (rest w from)) whole left (size_signed false (eqb (get_or w 0 0) 45) (rest w from) whole left s) ∙ ap sides_of (sym written_is) ∙ is_decimal_law
 
-        pub is_far_law : is_far (unsigned_decimal false (rest w from)) ≡ true → Beyond ≡ reckoned w
+        pub is_far_law : is_far (unsigned_decimal false (rest w from)) ≡ true → Err Beyond ≡ reckoned w
         unfolding sides_of
         is_far_law f = sym (ap sides_of written_is ∙ rw f) ∙ is_decimal_law
+
+      -- where it has no size
+      pub refused : (e : NoSides) → TellsSize (rest w from) (Err e) → Err e ≡ reckoned w
+      refused Named t = absurd t
+      refused Beyond t = is_far_law t.0 t.1
+      refused NoNumber t = no_decimal t

@@ -1,17 +1,18 @@
 -- What the loops over digits have read at each turn.
 -- Assumes nothing.
-use mathlib.Core.Path.{◌≡◌, refl, sym, ap, ◌∙◌, subst}
-use mathlib.Core.Bool.{Bool, true, false, cond, not, ◌||◌, ◌&&◌, and-true}
+use mathlib.Core.Path.{◌≡◌, refl, sym, ap, ◌∙◌}
+use mathlib.Core.Bool.{Bool, true, false, cond, not, ◌||◌, ◌&&◌, and-true, false≢true}
 use mathlib.Core.List.{List, [], ◌∷◌, ◌++◌}
-use Prim.Native.Nat.{ℕ, suc, ◌+◌, ◌-◌, ◌*◌, ◌^◌, ◌≤◌, ◌<◌, min}
+use Prim.Native.Nat.{ℕ, zero, suc, ◌+◌, ◌-◌, ◌*◌, ◌^◌, ◌≤◌, ◌<◌, min}
 use native.Mathlib.Nat.{pow-succ', pow-le-pow_right, zero-lt-suc}
 use native.Mathlib.Numerals.{add-one}
 use native.Mathlib.Omega.{arith}
 use lib.Dec.{ltb}
 use lib.ListN.{length, take, drop, get_or, length-drop, take-append-drop}
-use lib.Seq.{take-suc, drop-drop, get_or-drop}
+use lib.Seq.{take-suc, take_all, drop-drop, get_or-drop}
 use borrow.Author.Tests.{ne_eqb, lt-ltb, le-ltb}
 use Rattle.lists.specs.Lists.{every}
+use Rattle.lists.proofs.Cases.{and_both}
 use Rattle.rounding.specs.Rounding.{size_limit}
 use Rattle.scan.specs.Bytes.{is_digit}
 use Rattle.scan.specs.Front.{rest, part}
@@ -21,10 +22,10 @@ use Rattle.scan.proofs.Front.{rest_in, rest_past}
 use Rattle.scan.proofs.Runs.{on, stop, past}
 use Rattle.number.proofs.Plain.{every_append}
 use Rattle.decimal.specs.declared.Kept.{Kept}
-use Rattle.decimal.specs.declared.Tail.TheVariants as tail
+use Rattle.std.specs.Prelude.{Some, None, ◌↔◌}
 use Rattle.decimal.specs.Decimal.{leading, read_on, value_of}
-use Rattle.decimal.specs.Code.{raw_on, is_nought, tail_of, keep_one, keep_all, Keeps, kept}
-use Rattle.decimal.proofs.Value.{held_on}
+use Rattle.decimal.specs.Code.{raw_on, is_nought, tail_of, number_of, keep_one, keep_all, Keeps, kept}
+use Rattle.decimal.proofs.Value.{held_on, raw_seven}
 use Rattle.decimal.proofs.Digits.{leading_on, leading_stop, leading_past, part_on, part_stop, part_past}
 
 -- ---- a few digits: what is read of them, and what is left
@@ -85,7 +86,41 @@ module _ {w : List ℕ} {from to value i : ℕ} (h : Few w from to value i) wher
           ends = omega (arith, ap length e, h.ends);
         }
 
--- ---- digits up to a text's end, four at a time and one at a time: those from i on are digits if all are
+-- ---- digits up to a text's end
+pub every_index : (p : ℕ → Bool) (l : List ℕ) → ((k : ℕ) → k < length l → p (get_or l k 0) ≡ true) → every p l ≡ true
+unfolding every
+every_index p [] h = refl
+every_index p (b ∷ l) h = rw (h 0 (omega arith)) (every_index p l (λ k t. h (suc k) (omega arith)))
+
+index_every : (p : ℕ → Bool) (l : List ℕ) → every p l ≡ true → (k : ℕ) → k < length l → p (get_or l k 0) ≡ true
+unfolding every
+index_every p [] e k h = absurd (omega arith)
+index_every p (b ∷ l) e zero h = (and_both (p b) (every p l) e).0
+index_every p (b ∷ l) e (suc k) h = index_every p l (and_both (p b) (every p l) e).1 k (omega arith)
+
+pub told_every : (p : ℕ → Bool) (l : List ℕ) (r : Bool) → ((r ≡ true) ↔ ((k : ℕ) → k < length l → p (get_or l k 0) ≡ true)) → r ≡ every p l
+told_every p l true h = sym (every_index p l (h.0 refl))
+told_every p l false h = go (every p l) refl
+  where
+    go : (t : Bool) → every p l ≡ t → false ≡ t
+    go true e = absurd (false≢true (h.1 (index_every p l e)))
+    go false e = refl
+
+-- the first bytes, and one more
+pub every_first : (s : List ℕ) → true ≡ every is_digit (take 0 s)
+unfolding every
+every_first s = refl
+
+every_snoc : (x : List ℕ) (b : ℕ) → every is_digit (x ++ (b ∷ [])) ≡ (every is_digit x && is_digit b)
+unfolding every
+every_snoc x b = every_append is_digit x (b ∷ []) ∙ ap (λ (t : Bool). every is_digit x && t) (and-true (is_digit b))
+
+pub every_on : (s : List ℕ) (i : ℕ) {all next : Bool} → i < length s → all ≡ every is_digit (take i s) → next ≡ is_digit (get_or s i 0) → (all && next) ≡ every is_digit (take (i + 1) s)
+every_on s i l e n =
+    let t : take (i + 1) s ≡ take i s ++ (get_or s i 0 ∷ []) = rw add-one (take-suc s i 0 l) in
+    rw (e, n, t) (sym (every_snoc (take i s) (get_or s i 0)))
+
+-- four at a time, and then one at a time: those from i on are digits if all are
 pub record DigitsFrom (w : List ℕ) (from i : ℕ) : Type 0 where
   pub within : i ≤ length w
   pub same : every is_digit (rest w i) ≡ every is_digit (rest w from)
@@ -93,32 +128,37 @@ pub record DigitsFrom (w : List ℕ) (from i : ℕ) : Type 0 where
 pub digits_none : (w : List ℕ) (from : ℕ) → from ≤ length w → DigitsFrom w from from
 digits_none w from h = record { within = h; same = refl }
 
-module _ {w : List ℕ} {from i : ℕ} (h : DigitsFrom w from i) where
-  pub digits_end : length w ≤ i → true ≡ every is_digit (rest w from)
-  unfolding every
-  digits_end l = rw (rest_past w i l) at h.same
+module _ {w : List ℕ} {from i : ℕ} (h : DigitsFrom w from i) (l : 4 ≤ length w - i) where
+  split : every is_digit (rest w i) ≡ (every is_digit (take 4 (drop i w)) && every is_digit (rest w (i + 4)))
+  unfolding rest
+  split =
+      ap (every is_digit) (sym (take-append-drop 4 (drop i w)) ∙ ap (λ (x : List ℕ). take 4 (drop i w) ++ x) (drop-drop 4 i w))
+      ∙ every_append is_digit (take 4 (drop i w)) (drop (i + 4) w)
 
-  module _ (l : i < length w) where
-    pub digits_stop : is_digit (get_or w i 0) ≡ false → false ≡ every is_digit (rest w from)
-    unfolding every
-    digits_stop t = rw (rest_in w i l, t) at h.same
+  -- those that are told stand from i on
+  window : take (i + 4 - i) (drop i w) ≡ take 4 (drop i w)
+  window = let n : i + 4 - i ≡ 4 = omega arith in ap (λ (k : ℕ). take k (drop i w)) n
 
-    pub digits_on : is_digit (get_or w i 0) ≡ true → DigitsFrom w from (i + 1)
-    unfolding every
-    digits_on t = record { within = omega arith; same = rw (rest_in w i l, t) at h.same }
+  pub four_stop : every is_digit (take (i + 4 - i) (drop i w)) ≡ false → false ≡ every is_digit (rest w from)
+  four_stop t = rw (split, sym (ap (every is_digit) window) ∙ t) at h.same
 
-  module _ (l : 4 ≤ length w - i) where
-    split : every is_digit (rest w i) ≡ (every is_digit (take 4 (drop i w)) && every is_digit (rest w (i + 4)))
-    unfolding rest
-    split =
-        ap (every is_digit) (sym (take-append-drop 4 (drop i w)) ∙ ap (λ (x : List ℕ). take 4 (drop i w) ++ x) (drop-drop 4 i w))
-        ∙ every_append is_digit (take 4 (drop i w)) (drop (i + 4) w)
+  pub four_on : every is_digit (take (i + 4 - i) (drop i w)) ≡ true → DigitsFrom w from (i + 4)
+  four_on t = record { within = omega (arith, h.within); same = rw (split, sym (ap (every is_digit) window) ∙ t) at h.same }
 
-    pub four_stop : every is_digit (take 4 (drop i w)) ≡ false → false ≡ every is_digit (rest w from)
-    four_stop t = rw (split, t) at h.same
+-- ---- the bytes of a text's rest by their places in the text
+pub sliced_all : (w : List ℕ) (e : ℕ) → take (length w - e) (drop e w) ≡ rest w e
+unfolding rest
+sliced_all w e = take_all (length w - e) (drop e w) (omega (arith, length-drop e w))
 
-    pub four_on : every is_digit (take 4 (drop i w)) ≡ true → DigitsFrom w from (i + 4)
-    four_on t = record { within = omega (arith, h.within); same = rw (split, t) at h.same }
+pub sliced : (w : List ℕ) (e i : ℕ) → i < length (take (length w - e) (drop e w)) → (get_or (take (length w - e) (drop e w)) i 0 ≡ get_or w (e + i) 0) × (e + i < length w)
+sliced w e i h =
+    let whole : take (length w - e) (drop e w) ≡ drop e w = take_all (length w - e) (drop e w) (omega (arith, length-drop e w)) in
+    (ap (λ (l : List ℕ). get_or l i 0) whole ∙ get_or-drop e w i 0, omega (arith, ap length whole, length-drop e w))
+
+pub sliced_end : (w : List ℕ) (e i : ℕ) → length (take (length w - e) (drop e w)) ≤ i → length w ≤ e + i
+sliced_end w e i h =
+    let whole : take (length w - e) (drop e w) ≡ drop e w = take_all (length w - e) (drop e w) (omega (arith, length-drop e w)) in
+    omega (arith, ap length whole, length-drop e w)
 
 -- ---- a text's tail: only zeros so far
 pub record TailFrom (w : List ℕ) (from i : ℕ) : Type 0 where
@@ -128,12 +168,12 @@ pub record TailFrom (w : List ℕ) (from i : ℕ) : Type 0 where
 pub tail_none : (w : List ℕ) (from : ℕ) → from ≤ length w → TailFrom w from from
 tail_none w from h = record { within = h; same = refl }
 
-first_left : (b : ℕ) (l : List ℕ) → (b ≡ 48 → ⊥) → tail_of (b ∷ l) ≡ cond (every is_digit (b ∷ l)) (tail.Digits true) tail.Other
+first_left : (b : ℕ) (l : List ℕ) → (b ≡ 48 → ⊥) → tail_of (b ∷ l) ≡ cond (every is_digit (b ∷ l)) (Some true) None
 unfolding tail_of every
 first_left b l n = rw (ne_eqb b 48 n)
 
 module _ {w : List ℕ} {from i : ℕ} (h : TailFrom w from i) where
-  pub tail_end : length w ≤ i → tail.Digits false ≡ tail_of (rest w from)
+  pub tail_end : length w ≤ i → Some false ≡ tail_of (rest w from)
   unfolding tail_of every
   tail_end l = rw (rest_past w i l) at h.same
 
@@ -144,54 +184,61 @@ module _ {w : List ℕ} {from i : ℕ} (h : TailFrom w from i) where
 
     -- at one that isn't 0
     module _ (n : get_or w i 0 ≡ 48 → ⊥) where
-      told : cond (every is_digit (rest w i)) (tail.Digits true) tail.Other ≡ tail_of (rest w from)
+      told : cond (every is_digit (rest w i)) (Some true) None ≡ tail_of (rest w from)
       told = rw (rest_in w i l) (sym (first_left (get_or w i 0) (rest w (i + 1)) n) ∙ (rw (rest_in w i l) at h.same))
 
-      pub tail_left : true ≡ every is_digit (rest w i) → tail.Digits true ≡ tail_of (rest w from)
+      pub tail_left : true ≡ every is_digit (rest w i) → Some true ≡ tail_of (rest w from)
       tail_left t = rw (sym t) at told
 
-      pub tail_other : false ≡ every is_digit (rest w i) → tail.Other ≡ tail_of (rest w from)
+      pub tail_other : false ≡ every is_digit (rest w i) → None ≡ tail_of (rest w from)
       tail_other t = rw (sym t) at told
 
 -- ---- seven bytes
-pub record SevenSoFar (w : List ℕ) (at : ℕ) (all : Bool) (raw i : ℕ) : Type 0 where
-  pub within : i ≤ 7
-  pub told : all ≡ every is_digit (take i (drop at w))
-  pub read : raw ≡ raw_on 0 (take i (drop at w))
+pub record SevenSoFar (s : List ℕ) (all : Bool) (raw i : ℕ) : Type 0 where
+  pub told : all ≡ every is_digit (take i s)
+  pub read : raw ≡ raw_on 0 (take i s)
   pub small : raw + 29 ≤ 29 * 10 ^ i
-
-every_snoc : (x : List ℕ) (b : ℕ) → every is_digit (x ++ (b ∷ [])) ≡ (every is_digit x && is_digit b)
-unfolding every
-every_snoc x b = every_append is_digit x (b ∷ []) ∙ ap (λ (t : Bool). every is_digit x && t) (and-true (is_digit b))
 
 raw_snoc : (n : ℕ) (x : List ℕ) (b : ℕ) → raw_on n (x ++ (b ∷ [])) ≡ raw_on n x * 10 + b
 unfolding raw_on
 raw_snoc n [] b = refl
 raw_snoc n (a ∷ x) b = raw_snoc (n * 10 + a) x b
 
-pub seven_none : (w : List ℕ) (at : ℕ) → SevenSoFar w at true 0 0
+pub seven_none : (s : List ℕ) → SevenSoFar s true 0 0
 unfolding every raw_on
-seven_none w at = record { within = omega arith; told = refl; read = refl; small = omega arith }
+seven_none s = record { told = refl; read = refl; small = omega arith }
 
-module _ {w : List ℕ} {at i raw : ℕ} {all : Bool} (h : SevenSoFar w at all raw i) where
-  pub seven_small : raw ≤ 290000000
-  seven_small = omega (arith, h.small, ten_up_to i 7 h.within)
+module _ {s : List ℕ} {i raw : ℕ} {all : Bool} (h : SevenSoFar s all raw i) (seven : length s ≡ 7) where
+  pub seven_small : i ≤ 7 → raw ≤ 290000000
+  seven_small l = omega (arith, h.small, ten_up_to i 7 l)
 
-  pub seven_on : {next : Bool} → at + 7 ≤ length w → i < 7 → get_or w (at + i) 0 < 256 → next ≡ is_digit (get_or w (at + i) 0) → SevenSoFar w at (all && next) (raw * 10 + get_or w (at + i) 0) (i + 1)
-  seven_on inside l b n =
-      let in_rest : i < length (drop at w) = omega (arith, length-drop at w) in
-      let e : take (i + 1) (drop at w) ≡ take i (drop at w) ++ (get_or w (at + i) 0 ∷ []) = rw (add-one i, ← get_or-drop at w i 0) (take-suc (drop at w) i 0 in_rest) in
+  pub seven_on : {next : Bool} → i < length s → get_or s i 0 < 256 → next ≡ is_digit (get_or s i 0) → SevenSoFar s (all && next) (raw * 10 + get_or s i 0) (i + 1)
+  seven_on l b n =
+      let e : take (i + 1) s ≡ take i s ++ (get_or s i 0 ∷ []) = rw add-one (take-suc s i 0 l) in
       record {
-        within = omega arith;
-        told = rw (h.told, n, e) (sym (every_snoc (take i (drop at w)) (get_or w (at + i) 0)));
-        read = rw (h.read, e) (sym (raw_snoc 0 (take i (drop at w)) (get_or w (at + i) 0)));
+        told = every_on s i l h.told n;
+        read = rw (h.read, e) (sym (raw_snoc 0 (take i s) (get_or s i 0)));
         small = rw (add-one i, pow-succ' 10 i) (omega (arith, h.small));
       }
 
-  pub seven_end : 7 ≤ i → (all ≡ every is_digit (take 7 (drop at w))) × (raw ≡ raw_on 0 (take 7 (drop at w)))
-  seven_end l =
-      let e : i ≡ 7 = omega (arith, h.within) in
-      (rw e at h.told, rw e at h.read)
+-- when all are read
+module _ {s : List ℕ} {raw : ℕ} {all : Bool} (h : SevenSoFar s all raw (length s)) (seven : length s ≡ 7) where
+  all_is : all ≡ every is_digit s
+  all_is = h.told ∙ ap (every is_digit) (take_all (length s) s (omega arith))
+
+  raw_is : all ≡ true → raw ≡ value_of s + 53333328
+  raw_is t = h.read ∙ ap (raw_on 0) (take_all (length s) s (omega arith)) ∙ raw_seven s seven (sym all_is ∙ t)
+
+  pub seven_high : all ≡ true → 53333328 ≤ raw
+  seven_high t = omega (arith, raw_is t)
+
+  pub seven_is : all ≡ true → Some (raw - 53333328) ≡ number_of s
+  seven_is t =
+      let e : raw - 53333328 ≡ value_of s = omega (arith, raw_is t) in
+      rw (sym all_is ∙ t) (ap Some e)
+
+  pub seven_other : all ≡ false → None ≡ number_of s
+  seven_other t = rw (sym all_is ∙ t)
 
 -- ---- a number held at 10000
 pub record HeldFrom (w : List ℕ) (from n i : ℕ) : Type 0 where
@@ -300,22 +347,12 @@ drops_digit : (k : Kept) (b : ℕ) → size_limit ≤ k.value → kept k.value (
 drops_digit k b h = rw (le-ltb k.value size_limit h)
 
 -- ---- digits that are only told, up to i
-pub record DropsOn (w : List ℕ) (k : Kept) (rest : Bool) (i : ℕ) : Type 0 where
-  pub keeps : KeepsOn w k (kept k.value (k.dropped + (i - k.end)) rest i) i
-  pub later : k.end ≤ i
+pub record DropsOn (w : List ℕ) (before k : Kept) (i : ℕ) : Type 0 where
+  pub keeps : KeepsOn w before k i
+  pub over : size_limit ≤ k.value
 
-pub drops_none : (w : List ℕ) (k : Kept) → k.end ≤ length w → k.value < 10 * size_limit → k.dropped ≤ k.end → DropsOn w k k.rest k.end
-drops_none w k h v d =
-    let e : k.dropped ≡ k.dropped + (k.end - k.end) = omega arith in
-    record { keeps = subst (λ (n : ℕ). KeepsOn w k (kept k.value n k.rest k.end) k.end) e (keeps_none w k h v d); later = omega arith }
-
-pub drops_more : {w : List ℕ} {k : Kept} {rest : Bool} {i : ℕ} → DropsOn w k rest i → size_limit ≤ k.value → i < length w → is_digit (get_or w i 0) ≡ true → DropsOn w k (rest || not (is_nought (get_or w i 0))) (i + 1)
-drops_more {w} {k} {rest} {i} h v l t =
-    let n : k.dropped + (i + 1 - k.end) ≡ k.dropped + (i - k.end) + 1 = omega (arith, h.later) in
-    let r : Bool = rest || not (is_nought (get_or w i 0)) in
-    record {
-      keeps = keeps_more h.keeps l (kept k.value (k.dropped + (i + 1 - k.end)) r (i + 1)) t
-          (ap (λ (d : ℕ). kept k.value d r (i + 1)) n ∙ drops_digit (kept k.value (k.dropped + (i - k.end)) rest i) (get_or w i 0) v)
-          h.keeps.small (omega (arith, h.keeps.fewer, n));
-      later = omega (arith, h.later);
-    }
+pub drops_more : {w : List ℕ} {before k : Kept} {i : ℕ} → DropsOn w before k i → i < length w → is_digit (get_or w i 0) ≡ true → DropsOn w before (kept k.value (k.dropped + 1) (k.rest || not (is_nought (get_or w i 0))) (k.end + 1)) (i + 1)
+drops_more {w} {before} {k} {i} h l t = record {
+  keeps = keeps_more h.keeps l (kept k.value (k.dropped + 1) (k.rest || not (is_nought (get_or w i 0))) (k.end + 1)) t (drops_digit k (get_or w i 0) h.over) h.keeps.small (omega (arith, h.keeps.fewer));
+  over = h.over;
+}

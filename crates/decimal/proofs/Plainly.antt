@@ -21,7 +21,8 @@ use Rattle.scan.proofs.Runs.{rest_one}
 use Rattle.scan.proofs.Bytes.{or_none}
 use Rattle.number.specs.Lexeme.{is_e, after_whole, has_digit, is_plain}
 use Rattle.number.proofs.Equal.{point_digit}
-use Rattle.decimal.specs.declared.Fraction.TheVariants as fraction
+use Rattle.std.specs.Prelude.{Some}
+use Rattle.decimal.specs.declared.Size.{Size}
 use Rattle.decimal.specs.Decimal.{leading, value_of, is_minus, written}
 use Rattle.decimal.specs.Units.{unit_places}
 use Rattle.decimal.specs.Code.{any_left, fraction_of, PlainSize}
@@ -157,18 +158,18 @@ module _ (w : List ℕ) (from : ℕ) (signed : from ≡ after_one_at is_sign w 0
                 let more : length w - from ≡ 1 → ⊥ = eqb-false (length w - from) 1 (or_none (not (is_point (get_or w at 0))) (eqb (length w - from) 1) p).1 in
                 ap (begins is_digit) behind ∙ begins_every is_digit (rest w (at + 1)) (omega (arith, rest_length w (at + 1))) d
 
-        pub told_point : (units : ℕ) (left : Bool) → fraction.Digits units left ≡ fraction_of (rest w (at + 1)) → PlainSize w (eqb (get_or w 0 0) 45) (value * 10000000 + units) left
-        told_point units left f =
-            let says = fraction_says units left (rest w (at + 1)) f in
+        pub told_point : (s : Size) → Some s ≡ fraction_of (rest w (at + 1)) → PlainSize w (eqb (get_or w 0 0) 45) (value * 10000000 + s.whole) s.rest
+        told_point s f =
+            let says = fraction_says s (rest w (at + 1)) f in
             plain_size w (leading is_digit (part w from to)) (rest w (at + 1)) (leading_every is_digit (part w from to)) says.digits
             (ap (leading is_digit) (sym bare) ∙ window.0)
             (ap after_whole (sym bare) ∙ behind)
             (ap has_digit (sym bare) ∙ has_digit_law says.digits)
-            (eqb (get_or w 0 0) 45) (value * 10000000 + units) left minus_is
+            (eqb (get_or w 0 0) 45) (value * 10000000 + s.whole) s.rest minus_is
             (ap₂ (λ (n m : ℕ). n * 10000000 + m) v says.is)
             says.over
 
-pub units_small : (units : ℕ) (left : Bool) (l : List ℕ) → fraction.Digits units left ≡ fraction_of l → units < 10000000
-units_small units left l f =
-    let says = fraction_says units left l f in
+pub units_small : (s : Size) (l : List ℕ) → Some s ≡ fraction_of l → s.whole < 10000000
+units_small s l f =
+    let says = fraction_says s l f in
     rw says.is (fraction_small l says.digits)

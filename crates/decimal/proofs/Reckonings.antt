@@ -12,22 +12,22 @@ use lib.Signed.{lt_z}
 use Rattle.scan.specs.Bytes.{is_sign}
 use Rattle.scan.specs.Front.{after_one}
 use Rattle.number.specs.Lexeme.{is_named, is_lexeme}
-use Rattle.rounding.specs.declared.Reckoned.{Reckoned}
-use Rattle.rounding.specs.declared.Reckoned.TheVariants.{Sides, Named, Beyond, NoNumber}
-use Rattle.rounding.specs.Rounding.{outward, low_of, high_of}
+use Rattle.std.specs.Prelude.{Ok, Err}
+use Rattle.rounding.specs.declared.NoSides.TheVariants.{Named, Beyond, NoNumber}
+use Rattle.rounding.specs.Rounding.{Reckoned, sides, outward, low_of, high_of}
 use Rattle.decimal.specs.Decimal.{Decimal, written}
 use Rattle.decimal.specs.Units.{whole_units, is_left, low, high, is_far, is_large}
 use Rattle.decimal.specs.Reckon.{sides_of, reckoned}
 
-pub each_reckoned : (P : Reckoned → Type 0) → P Named → P Beyond → P NoNumber → ((x : Decimal) → is_large x ≡ false → P (Sides (low x) (high x))) → (l : List ℕ) → P (reckoned l)
+pub each_reckoned : (P : Reckoned → Type 0) → P (Err Named) → P (Err Beyond) → P (Err NoNumber) → ((x : Decimal) → is_large x ≡ false → P (Ok (sides (low x) (high x)))) → (l : List ℕ) → P (reckoned l)
 unfolding reckoned sides_of
-each_reckoned P named beyond none sides l = go (is_lexeme l) (is_named (after_one is_sign l)) (is_far (written l)) (is_large (written l)) refl
+each_reckoned P named beyond none some l = go (is_lexeme l) (is_named (after_one is_sign l)) (is_far (written l)) (is_large (written l)) refl
   where
-    go : (a b c d : Bool) → is_large (written l) ≡ d → P (cond a (cond b Named (cond c Beyond (cond d Beyond (Sides (low (written l)) (high (written l)))))) NoNumber)
+    go : (a b c d : Bool) → is_large (written l) ≡ d → P (cond a (cond b (Err Named) (cond c (Err Beyond) (cond d (Err Beyond) (Ok (sides (low (written l)) (high (written l))))))) (Err NoNumber))
     go true true c d e = named
     go true false true d e = beyond
     go true false false true e = beyond
-    go true false false false e = sides (written l) e
+    go true false false false e = some (written l) e
     go false b c d e = none
 
 negatives : (a b : ℕ) → a ≤ b → lt_z (neg_ℤ (pos a)) (neg_ℤ (pos b)) ≡ false

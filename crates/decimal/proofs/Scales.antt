@@ -1,7 +1,7 @@
 -- A decimal by the places in its text where its digits, its point and its exponent stand: what is kept of it comes to its size.
 -- Assumes nothing.
-use mathlib.Core.Path.{◌≡◌, refl, ap, ap₂, ◌∙◌}
-use mathlib.Core.Bool.{Bool, true, false, cond, ◌&&◌, ◌||◌}
+use mathlib.Core.Path.{◌≡◌, refl, sym, ap, ap₂, ◌∙◌}
+use mathlib.Core.Bool.{Bool, true, false, cond, ◌&&◌, ◌||◌, and-false}
 use mathlib.Core.List.{List, ◌++◌}
 use Prim.Native.Nat.{ℕ, ◌+◌, ◌-◌, ◌≤◌, ◌<◌, min}
 use native.Mathlib.Omega.{arith}
@@ -13,8 +13,9 @@ use Rattle.scan.specs.Bytes.{is_digit, is_point}
 use Rattle.scan.specs.Front.{rest, begins, after_one, after_all, is_nil}
 use Rattle.scan.specs.Runs.{after_one_at}
 use Rattle.scan.proofs.Runs.{moves, rest_run, rest_one, not_past, one_not_before, one_not_past}
-use Rattle.number.specs.Lexeme.{after_whole, is_decimal}
+use Rattle.number.specs.Lexeme.{after_whole, has_digit, is_exponent, is_decimal}
 use Rattle.number.proofs.Plain.{every_append}
+use Rattle.std.specs.Prelude.{Some, None}
 use Rattle.decimal.specs.declared.Kept.{Kept}
 use Rattle.decimal.specs.declared.Size.{Size}
 use Rattle.decimal.specs.declared.Exponent.{Exponent}
@@ -24,7 +25,7 @@ use Rattle.decimal.specs.Code.{kept, keep_all, Keeps, exponent_of, size_of, Size
 use Rattle.decimal.proofs.Sizes.{SameDigits, keep_both}
 use Rattle.decimal.proofs.Exact.{kept_size_by}
 use Rattle.decimal.proofs.Digits.{leading_every}
-use Rattle.decimal.proofs.Texts.{ends_at}
+use Rattle.decimal.proofs.Texts.{ends_at, exponent_says, exponent_none}
 
 module _ (w : List ℕ) (from : ℕ) (whole : Kept) (kw : Keeps w (kept 0 0 false from) whole) (first : ℕ) (f : first ≡ after_one_at is_point w whole.end) where
   digits_at : rest w whole.end ≡ after_all is_digit (rest w from)
@@ -58,22 +59,28 @@ module _ (w : List ℕ) (from : ℕ) (whole : Kept) (kw : Keeps w (kept 0 0 fals
     all_at : rest w all.end ≡ after_all is_digit (after_whole (rest w from))
     all_at = ap (rest w) ka.end ∙ rest_run is_digit w first ∙ ap (after_all is_digit) first_at_law
 
-    module _ (x : Exponent) (e : x ≡ exponent_of (rest w all.end)) where
-      -- whether it is a decimal: a digit before the point or behind it, and then an exponent or the end
-      pub decimal_is : ((ltb from whole.end || ltb first all.end) && x.good) ≡ is_decimal is_nil (rest w from)
-      unfolding is_decimal exponent_of
-      decimal_is =
-          ap₂ ◌&&◌
-          (ap₂ ◌||◌ (ap (ltb from) kw.end ∙ moves is_digit w from) (ap (ltb first) ka.end ∙ moves is_digit w first ∙ ap (begins is_digit) first_at_law))
-          (ap (λ (k : Exponent). k.good) (e ∙ ap exponent_of all_at))
+    -- whether it is a decimal: a digit before the point or behind it, and then an exponent or the end
+    digit_is : (ltb from whole.end || ltb first all.end) ≡ has_digit (rest w from)
+    digit_is = ap₂ ◌||◌ (ap (ltb from) kw.end ∙ moves is_digit w from) (ap (ltb first) ka.end ∙ moves is_digit w first ∙ ap (begins is_digit) first_at_law)
+
+    pub no_digit : (ltb from whole.end || ltb first all.end) ≡ false → is_decimal is_nil (rest w from) ≡ false
+    unfolding is_decimal
+    no_digit f = ap (λ (t : Bool). t && is_exponent is_nil (after_all is_digit (after_whole (rest w from)))) (sym digit_is ∙ f)
+
+    pub no_exponent : None ≡ exponent_of (rest w all.end) → is_decimal is_nil (rest w from) ≡ false
+    unfolding is_decimal
+    no_exponent e = ap (λ (t : Bool). has_digit (rest w from) && t) (sym (ap (is_exponent is_nil) all_at) ∙ exponent_none (rest w all.end) e) ∙ and-false (has_digit (rest w from))
+
+    module _ (x : Exponent) (e : Some x ≡ exponent_of (rest w all.end)) where
+      pub decimal_is : (ltb from whole.end || ltb first all.end) ≡ true → is_decimal is_nil (rest w from) ≡ true
+      unfolding is_decimal
+      decimal_is t = ap₂ ◌&&◌ (sym digit_is ∙ t) (sym (ap (is_exponent is_nil) all_at) ∙ (exponent_says x (rest w all.end) e).good)
 
       lowers_is : x.lowers ≡ begins is_minus (behind_e (rest w from))
-      unfolding exponent_of
-      lowers_is = ap (λ (k : Exponent). k.lowers) (e ∙ ap exponent_of all_at)
+      lowers_is = (exponent_says x (after_all is_digit (after_whole (rest w from))) (e ∙ ap exponent_of all_at)).lowers
 
       size_is : x.size ≡ min (value_of (exponent_digits (rest w from))) 10000
-      unfolding exponent_of
-      size_is = ap (λ (k : Exponent). k.size) (e ∙ ap exponent_of all_at)
+      size_is = (exponent_says x (after_all is_digit (after_whole (rest w from))) (e ∙ ap exponent_of all_at)).size
 
       pub size_far : 9999 < x.size → is_far (unsigned_decimal false (rest w from)) ≡ true
       size_far h = lt-ltb 9999 (value_of (exponent_digits (rest w from))) (omega (arith, size_is))

@@ -9,7 +9,9 @@ use Rattle.scan.specs.Text as text
 use Rattle.scan.specs.Bytes.{is_sign}
 use Rattle.scan.specs.Front.{after_one}
 use Rattle.number.specs.Lexeme.{is_named, is_lexeme}
-use Rattle.rounding.specs.declared.Reckoned.TheVariants.{Sides, Named, Beyond, NoNumber}
+use Rattle.std.specs.Prelude.{Ok, Err}
+use Rattle.rounding.specs.declared.NoSides.TheVariants.{Named, Beyond, NoNumber}
+use Rattle.rounding.specs.Rounding.{sides, Reckoned}
 use Rattle.decimal.specs.Decimal.{Decimal, written, SameNumber}
 use Rattle.decimal.specs.Units.{low, high, is_far, is_large}
 use Rattle.decimal.specs.Reckon.{sides_of, reckoned}
@@ -17,11 +19,11 @@ use Rattle.decimal.specs.Spellings.{is_sides, Written, tens_written, tens_same, 
 use Rattle.decimal.proofs.Same.{same_low, same_high, same_large}
 
 -- ---- the sides that a text comes to are its decimal's
-pub its_sides : (l : List ℕ) → is_sides (reckoned l) ≡ true → reckoned l ≡ Sides (low (written l)) (high (written l))
+pub its_sides : (l : List ℕ) → is_sides (reckoned l) ≡ true → reckoned l ≡ Ok (sides (low (written l)) (high (written l)))
 unfolding reckoned sides_of
 its_sides l = go (is_lexeme l) (is_named (after_one is_sign l)) (is_far (written l)) (is_large (written l))
   where
-    go : (a b c d : Bool) → is_sides (cond a (cond b Named (cond c Beyond (cond d Beyond (Sides (low (written l)) (high (written l)))))) NoNumber) ≡ true → cond a (cond b Named (cond c Beyond (cond d Beyond (Sides (low (written l)) (high (written l)))))) NoNumber ≡ Sides (low (written l)) (high (written l))
+    go : (a b c d : Bool) → is_sides (cond a (cond b (Err Named) (cond c (Err Beyond) (cond d (Err Beyond) (Ok (sides (low (written l)) (high (written l))))))) (Err NoNumber)) ≡ true → cond {A = Reckoned} a (cond b (Err Named) (cond c (Err Beyond) (cond d (Err Beyond) (Ok (sides (low (written l)) (high (written l))))))) (Err NoNumber) ≡ Ok (sides (low (written l)) (high (written l)))
     go true true c d e = absurd (false≢true e)
     go true false true d e = absurd (false≢true e)
     go true false false true e = absurd (false≢true e)

@@ -1,7 +1,7 @@
 -- The digits at the front of a text, by where they end, and its parts: digits after a point, and an exponent.
 -- Assumes nothing.
 use mathlib.Core.Path.{◌≡◌, refl, sym, ap, ap₂, ◌∙◌}
-use mathlib.Core.Bool.{Bool, true, false, cond, ◌&&◌, ◌||◌, and_assoc, false≢true}
+use mathlib.Core.Bool.{Bool, true, false, cond, ◌&&◌, ◌||◌, and_assoc}
 use mathlib.Core.List.{List, [], ◌∷◌, ◌++◌}
 use Prim.Native.Nat.{ℕ, zero, suc, ◌+◌, ◌-◌, ◌*◌, ◌^◌, ◌≤◌, ◌<◌, min}
 use native.Mathlib.Nat.{mul-one}
@@ -9,7 +9,7 @@ use native.Mathlib.Omega.{arith}
 use lib.ListN.{length, take, drop, get_or, length-drop, take-append-drop, drop_of_length-le}
 use lib.Dec.{leb, ltb}
 use borrow.Author.Tests.{lt-leb}
-use lib.Seq.{take_all, drop-drop, length-take-le}
+use lib.Seq.{take_all, drop-drop}
 use Rattle.lists.specs.Lists.{every}
 use Rattle.scan.specs.Bytes.{is_digit, is_sign}
 use Rattle.scan.specs.Front.{rest, part, begins, after_one, after_all, is_nil}
@@ -18,14 +18,12 @@ use Rattle.scan.proofs.Front.{rest_past, tail_part, nil_at, begins_at}
 use Rattle.scan.proofs.Runs.{rest_one, rest_run, moves, one_not_past}
 use Rattle.number.specs.Lexeme.{is_e, is_digits, is_exponent}
 use Rattle.number.proofs.Plain.{every_append}
+use Rattle.std.specs.Prelude.{Some, None}
 use Rattle.decimal.specs.declared.Exponent.{Exponent}
-use Rattle.decimal.specs.declared.Tail.{Tail}
-use Rattle.decimal.specs.declared.Tail.TheVariants as tail
-use Rattle.decimal.specs.declared.Fraction.{Fraction}
-use Rattle.decimal.specs.declared.Fraction.TheVariants as fraction
+use Rattle.decimal.specs.declared.Size.{Size}
 use Rattle.decimal.specs.Decimal.{leading, value_of, is_minus}
-use Rattle.decimal.specs.Code.{raw_on, any_left, tail_of, fraction_of, exponent_of}
-use Rattle.decimal.proofs.Value.{value_none, value_lt, raw_seven}
+use Rattle.decimal.specs.Code.{any_left, tail_of, number_of, size, fraction_of, exponent, exponent_of}
+use Rattle.decimal.proofs.Value.{value_none, value_lt}
 use Rattle.decimal.proofs.Digits.{leading_nil, leading_every, leading_all, rest_length}
 
 -- ---- the leading bytes of a list's first n
@@ -82,8 +80,40 @@ module _ (p : ℕ → Bool) where
       go false e k f r = (refl, refl)
 
 -- ---- an exponent
+exponent_is : (l : List ℕ) (x : Exponent) → is_exponent is_nil l ≡ true → x ≡ exponent (begins is_minus (after_one is_e l)) (min (value_of (leading is_digit (after_one is_sign (after_one is_e l)))) 10000) → Some x ≡ exponent_of l
+unfolding exponent_of
+exponent_is l x t e = rw t (ap Some e)
+
+exponent_no : (l : List ℕ) → is_exponent is_nil l ≡ false → None ≡ exponent_of l
+unfolding exponent_of
+exponent_no l t = rw t
+
+-- what an exponent says
+pub record ExponentIs (x : Exponent) (l : List ℕ) : Type 0 where
+  pub good : is_exponent is_nil l ≡ true
+  pub lowers : x.lowers ≡ begins is_minus (after_one is_e l)
+  pub size : x.size ≡ min (value_of (leading is_digit (after_one is_sign (after_one is_e l)))) 10000
+
+pub exponent_says : (x : Exponent) (l : List ℕ) → Some x ≡ exponent_of l → ExponentIs x l
+unfolding exponent_of
+exponent_says x l e = go (is_exponent is_nil l) refl e
+  where
+    go : (t : Bool) → is_exponent is_nil l ≡ t → Some x ≡ cond t (Some (exponent (begins is_minus (after_one is_e l)) (min (value_of (leading is_digit (after_one is_sign (after_one is_e l)))) 10000))) None → ExponentIs x l
+    go true h q =
+        let s : x ≡ exponent (begins is_minus (after_one is_e l)) (min (value_of (leading is_digit (after_one is_sign (after_one is_e l)))) 10000) = cc in
+        record { good = h; lowers = ap (λ (k : Exponent). k.lowers) s; size = ap (λ (k : Exponent). k.size) s }
+    go false h q = cc
+
+pub exponent_none : (l : List ℕ) → None ≡ exponent_of l → is_exponent is_nil l ≡ false
+unfolding exponent_of
+exponent_none l e = go (is_exponent is_nil l) refl e
+  where
+    go : (t : Bool) → is_exponent is_nil l ≡ t → None ≡ cond t (Some (exponent (begins is_minus (after_one is_e l)) (min (value_of (leading is_digit (after_one is_sign (after_one is_e l)))) 10000))) None → t ≡ false
+    go true h q = cc
+    go false h q = refl
+
 module _ (w : List ℕ) (at : ℕ) where
-  pub exponent_past : length w ≤ at → ◌≡◌ {A = Exponent} (record { good = true; lowers = false; size = 0 }) (exponent_of (rest w at))
+  pub exponent_past : length w ≤ at → Some (exponent false 0) ≡ exponent_of (rest w at)
   unfolding exponent_of is_exponent is_nil begins after_one
   exponent_past h = rw (rest_past w at h, leading_nil is_digit, value_none)
 
@@ -101,80 +131,90 @@ module _ (w : List ℕ) (at : ℕ) where
       ∙ ap₂ ◌&&◌ (e ∙ begins_at is_e w at h) (ap₂ ◌&&◌ some last)
       ∙ sym (ap (λ (t : Bool). t || (begins is_e l && (begins is_digit digits && is_nil (after_all is_digit digits)))) more)
 
-  pub exponent_at : at < length w → (is_e_law : Bool) (sign : ℕ) (lowers : Bool) (first size end : ℕ) → is_e_law ≡ is_e (get_or w at 0) → sign ≡ after_one_at is_e w at → lowers ≡ begins is_minus (rest w sign) → first ≡ after_one_at is_sign w sign
-      → size ≡ min (value_of (leading is_digit (rest w first))) 10000 → end ≡ first_not is_digit w first → ◌≡◌ {A = Exponent} (record { good = (is_e_law && ltb first end) && leb (length w) end; lowers = lowers; size = size }) (exponent_of (rest w at))
-  unfolding exponent_of
-  exponent_at h is_e_law sign lowers first size end e s n f v t =
-      let behind : rest w sign ≡ after_one is_e (rest w at) = ap (rest w) s ∙ rest_one is_e w at refl in
-      let digits : rest w first ≡ after_one is_sign (after_one is_e (rest w at)) = ap (rest w) f ∙ rest_one is_sign w sign refl ∙ ap (after_one is_sign) behind in
-      same (exponent_good h is_e_law first end e digits t) (n ∙ ap (begins is_minus) behind) (v ∙ ap (λ (l : List ℕ). min (value_of (leading is_digit l)) 10000) digits)
-    where
-      same : {g k a b : Bool} {m n : ℕ} → g ≡ k → a ≡ b → m ≡ n → ◌≡◌ {A = Exponent} (record { good = g; lowers = a; size = m }) (record { good = k; lowers = b; size = n })
-      same o p q = λ i. record { good = o i; lowers = p i; size = q i }
+  -- no `e` stands there
+  pub exponent_other : at < length w → is_e (get_or w at 0) ≡ false → None ≡ exponent_of (rest w at)
+  unfolding is_exponent
+  exponent_other h e =
+      let more : is_nil (rest w at) ≡ false = sym (nil_at w at) ∙ lt-leb (length w) at h in
+      let front : begins is_e (rest w at) ≡ false = sym (begins_at is_e w at h) ∙ e in
+      exponent_no (rest w at) (rw (more, front))
+
+  module _ (h : at < length w) (e : is_e (get_or w at 0) ≡ true) (sign first end : ℕ) (s : sign ≡ after_one_at is_e w at) (f : first ≡ after_one_at is_sign w sign) (n : end ≡ first_not is_digit w first) where
+    behind_e_law : rest w sign ≡ after_one is_e (rest w at)
+    behind_e_law = ap (rest w) s ∙ rest_one is_e w at refl
+
+    digits_law : rest w first ≡ after_one is_sign (after_one is_e (rest w at))
+    digits_law = ap (rest w) f ∙ rest_one is_sign w sign refl ∙ ap (after_one is_sign) behind_e_law
+
+    -- no digits stand behind it, or more than them
+    pub exponent_bad : (ltb first end && leb (length w) end) ≡ false → None ≡ exponent_of (rest w at)
+    exponent_bad t = exponent_no (rest w at) (sym (exponent_good h true first end (sym e) digits_law n) ∙ t)
+
+    pub exponent_at : (lowers : Bool) (size : ℕ) → lowers ≡ begins is_minus (rest w sign) → size ≡ min (value_of (leading is_digit (rest w first))) 10000 → (ltb first end && leb (length w) end) ≡ true → Some (exponent lowers size) ≡ exponent_of (rest w at)
+    exponent_at lowers size m v t =
+        exponent_is (rest w at) (exponent lowers size) (sym (exponent_good h true first end (sym e) digits_law n) ∙ t)
+        (ap₂ exponent (m ∙ ap (begins is_minus) behind_e_law) (v ∙ ap (λ (l : List ℕ). min (value_of (leading is_digit l)) 10000) digits_law))
 
   -- the place behind its sign is no place past the end
   pub sign_inside : at < length w → (sign first : ℕ) → sign ≡ after_one_at is_e w at → first ≡ after_one_at is_sign w sign → first ≤ length w
   sign_inside h sign first s f = rw f (one_not_past is_sign w sign refl (rw s (one_not_past is_e w at refl (omega arith))))
 
 -- ---- digits after a point
-left_of : Tail → Bool
-left_of (tail.Digits left) = left
-left_of tail.Other = false
-
-ends_in_digits : Tail → Bool
-ends_in_digits (tail.Digits left) = true
-ends_in_digits tail.Other = false
-
 -- what a tail says
-tail_digits : (left : Bool) (l : List ℕ) → tail.Digits left ≡ tail_of l → (every is_digit l ≡ true) × (left ≡ any_left l)
-unfolding tail_of left_of ends_in_digits
+tail_digits : (left : Bool) (l : List ℕ) → Some left ≡ tail_of l → (every is_digit l ≡ true) × (left ≡ any_left l)
+unfolding tail_of
 tail_digits left l e = go (every is_digit l) refl e
   where
-    go : (t : Bool) → every is_digit l ≡ t → tail.Digits left ≡ cond t (tail.Digits (any_left l)) tail.Other → (t ≡ true) × (left ≡ any_left l)
-    go true h q = (refl, ap left_of q)
-    go false h q = absurd (false≢true (sym (ap ends_in_digits q)))
+    go : (t : Bool) → every is_digit l ≡ t → Some left ≡ cond t (Some (any_left l)) None → (t ≡ true) × (left ≡ any_left l)
+    go true h q = (refl, cc)
+    go false h q = cc
 
-tail_other : (l : List ℕ) → tail.Other ≡ tail_of l → every is_digit l ≡ false
-unfolding tail_of ends_in_digits
+tail_other : (l : List ℕ) → None ≡ tail_of l → every is_digit l ≡ false
+unfolding tail_of
 tail_other l e = go (every is_digit l) refl e
   where
-    go : (t : Bool) → every is_digit l ≡ t → tail.Other ≡ cond t (tail.Digits (any_left l)) tail.Other → t ≡ false
-    go true h q = absurd (false≢true (ap ends_in_digits q))
+    go : (t : Bool) → every is_digit l ≡ t → None ≡ cond t (Some (any_left l)) None → t ≡ false
+    go true h q = cc
     go false h q = refl
 
-fraction_other : (l : List ℕ) → every is_digit l ≡ false → fraction.Other ≡ fraction_of l
+-- and what a number says
+number_digits : (n : ℕ) (l : List ℕ) → Some n ≡ number_of l → (every is_digit l ≡ true) × (n ≡ value_of l)
+number_digits n l e = go (every is_digit l) refl e
+  where
+    go : (t : Bool) → every is_digit l ≡ t → Some n ≡ cond t (Some (value_of l)) None → (t ≡ true) × (n ≡ value_of l)
+    go true h q = (refl, cc)
+    go false h q = cc
+
+number_other : (l : List ℕ) → None ≡ number_of l → every is_digit l ≡ false
+number_other l e = go (every is_digit l) refl e
+  where
+    go : (t : Bool) → every is_digit l ≡ t → None ≡ cond t (Some (value_of l)) None → t ≡ false
+    go true h q = cc
+    go false h q = refl
+
+fraction_other : (l : List ℕ) → every is_digit l ≡ false → None ≡ fraction_of l
 unfolding fraction_of
 fraction_other l e = rw e
 
-fraction_is : (units : ℕ) (left : Bool) (l : List ℕ) → every is_digit l ≡ true → units ≡ value_of (take 7 l) * 10 ^ (7 - length l) → left ≡ any_left (drop 7 l) → fraction.Digits units left ≡ fraction_of l
+fraction_is : (units : ℕ) (left : Bool) (l : List ℕ) → every is_digit l ≡ true → units ≡ value_of (take 7 l) * 10 ^ (7 - length l) → left ≡ any_left (drop 7 l) → Some (size units left) ≡ fraction_of l
 unfolding fraction_of
-fraction_is units left l e u r = rw e (ap₂ fraction.Digits u r)
-
-units_of : Fraction → ℕ
-units_of (fraction.Digits units left) = units
-units_of fraction.Other = 0
-
-over_of : Fraction → Bool
-over_of (fraction.Digits units left) = left
-over_of fraction.Other = false
-
-says_digits : Fraction → Bool
-says_digits (fraction.Digits units left) = true
-says_digits fraction.Other = false
+fraction_is units left l e u r = rw e (ap Some (ap₂ size u r))
 
 -- what a fraction says
-pub record FractionIs (units : ℕ) (left : Bool) (l : List ℕ) : Type 0 where
+pub record FractionIs (s : Size) (l : List ℕ) : Type 0 where
   pub digits : every is_digit l ≡ true
-  pub is : units ≡ value_of (take 7 l) * 10 ^ (7 - length l)
-  pub over : left ≡ any_left (drop 7 l)
+  pub is : s.whole ≡ value_of (take 7 l) * 10 ^ (7 - length l)
+  pub over : s.rest ≡ any_left (drop 7 l)
 
-pub fraction_says : (units : ℕ) (left : Bool) (l : List ℕ) → fraction.Digits units left ≡ fraction_of l → FractionIs units left l
-unfolding fraction_of units_of over_of says_digits
-fraction_says units left l e = go (every is_digit l) refl e
+pub fraction_says : (s : Size) (l : List ℕ) → Some s ≡ fraction_of l → FractionIs s l
+unfolding fraction_of
+fraction_says s l e = go (every is_digit l) refl e
   where
-    go : (t : Bool) → every is_digit l ≡ t → fraction.Digits units left ≡ cond t (fraction.Digits (value_of (take 7 l) * 10 ^ (7 - length l)) (any_left (drop 7 l))) fraction.Other → FractionIs units left l
-    go true h q = record { digits = h; is = ap units_of q; over = ap over_of q }
-    go false h q = absurd (false≢true (sym (ap says_digits q)))
+    go : (t : Bool) → every is_digit l ≡ t → Some s ≡ cond t (Some (size (value_of (take 7 l) * 10 ^ (7 - length l)) (any_left (drop 7 l)))) None → FractionIs s l
+    go true h q =
+        let e : s ≡ size (value_of (take 7 l) * 10 ^ (7 - length l)) (any_left (drop 7 l)) = cc in
+        record { digits = h; is = ap (λ (k : Size). k.whole) e; over = ap (λ (k : Size). k.rest) e }
+    go false h q = cc
 
 -- seven or more
 module _ (w : List ℕ) (first : ℕ) (inside : first + 7 ≤ length w) where
@@ -185,34 +225,27 @@ module _ (w : List ℕ) (first : ℕ) (inside : first + 7 ≤ length w) where
   split_every : every is_digit (rest w first) ≡ (every is_digit (take 7 (drop first w)) && every is_digit (rest w (first + 7)))
   split_every = ap (every is_digit) rest_seven ∙ every_append is_digit (take 7 (drop first w)) (rest w (first + 7))
 
-  pub long_other : (all : Bool) → all ≡ every is_digit (take 7 (drop first w)) → all ≡ false → fraction.Other ≡ fraction_of (rest w first)
-  long_other all e f = fraction_other (rest w first) (split_every ∙ ap (λ (t : Bool). t && every is_digit (rest w (first + 7))) (sym e ∙ f))
+  pub long_other : None ≡ number_of (take 7 (drop first w)) → None ≡ fraction_of (rest w first)
+  long_other e = fraction_other (rest w first) (split_every ∙ ap (λ (t : Bool). t && every is_digit (rest w (first + 7))) (number_other (take 7 (drop first w)) e))
 
-  module _ (raw : ℕ) (e : true ≡ every is_digit (take 7 (drop first w))) (r : raw ≡ raw_on 0 (take 7 (drop first w))) where
-    raw_is : raw ≡ value_of (take 7 (drop first w)) + 53333328
-    raw_is = r ∙ raw_seven (take 7 (drop first w)) (length-take-le 7 (drop first w) (omega (arith, length-drop first w))) (sym e)
-
-    pub raw_high : 53333328 ≤ raw
-    raw_high = omega (arith, raw_is)
-
-    pub long_tail : tail.Other ≡ tail_of (rest w (first + 7)) → fraction.Other ≡ fraction_of (rest w first)
-    long_tail t = fraction_other (rest w first) (split_every ∙ ap₂ ◌&&◌ (sym e) (tail_other (rest w (first + 7)) t))
+  module _ (whole : ℕ) (e : Some whole ≡ number_of (take 7 (drop first w))) where
+    pub long_tail : None ≡ tail_of (rest w (first + 7)) → None ≡ fraction_of (rest w first)
+    long_tail t = fraction_other (rest w first) (split_every ∙ ap₂ ◌&&◌ (number_digits whole (take 7 (drop first w)) e).0 (tail_other (rest w (first + 7)) t))
 
     behind : rest w (first + 7) ≡ drop 7 (rest w first)
     unfolding rest
     behind = sym (drop-drop 7 first w)
 
-    seven_units : raw - 53333328 ≡ value_of (take 7 (rest w first)) * 10 ^ (7 - length (rest w first))
+    seven_units : whole ≡ value_of (take 7 (rest w first)) * 10 ^ (7 - length (rest w first))
     unfolding rest
     seven_units =
         let none : 7 - length (drop first w) ≡ 0 = omega (arith, length-drop first w) in
-        let less : raw - 53333328 ≡ value_of (take 7 (drop first w)) = omega (arith, raw_is) in
-        less ∙ sym (ap (λ (k : ℕ). value_of (take 7 (drop first w)) * 10 ^ k) none ∙ mul-one (value_of (take 7 (drop first w))))
+        (number_digits whole (take 7 (drop first w)) e).1 ∙ sym (ap (λ (k : ℕ). value_of (take 7 (drop first w)) * 10 ^ k) none ∙ mul-one (value_of (take 7 (drop first w))))
 
-    pub long_is : (left : Bool) → tail.Digits left ≡ tail_of (rest w (first + 7)) → fraction.Digits (raw - 53333328) left ≡ fraction_of (rest w first)
+    pub long_is : (left : Bool) → Some left ≡ tail_of (rest w (first + 7)) → Some (size whole left) ≡ fraction_of (rest w first)
     long_is left t =
         let both = tail_digits left (rest w (first + 7)) t in
-        fraction_is (raw - 53333328) left (rest w first) (split_every ∙ ap₂ ◌&&◌ (sym e) both.0) seven_units (both.1 ∙ ap any_left behind)
+        fraction_is whole left (rest w first) (split_every ∙ ap₂ ◌&&◌ (number_digits whole (take 7 (drop first w)) e).0 both.0) seven_units (both.1 ∙ ap any_left behind)
 
 -- fewer
 module _ (w : List ℕ) (first : ℕ) (inside : first ≤ length w) where
@@ -224,7 +257,7 @@ module _ (w : List ℕ) (first : ℕ) (inside : first ≤ length w) where
     ends : end ≡ first + length (leading is_digit (rest w first))
     ends = e ∙ ap (λ (l : List ℕ). first + length (leading is_digit l)) part_rest
 
-    pub short_other : end < length w → fraction.Other ≡ fraction_of (rest w first)
+    pub short_other : end < length w → None ≡ fraction_of (rest w first)
     short_other h = fraction_other (rest w first) (go (every is_digit (rest w first)) refl)
       where
         go : (t : Bool) → every is_digit (rest w first) ≡ t → t ≡ false
@@ -245,7 +278,7 @@ module _ (w : List ℕ) (first : ℕ) (inside : first ≤ length w) where
           let t : take (length (rest w first)) (rest w first) ≡ rest w first = take_all (length (rest w first)) (rest w first) (omega arith) in
           rw t at (first_all is_digit (length (rest w first)) (rest w first) (rw t (omega (arith, ends, rest_length w first))))
 
-      pub short_is : (units : ℕ) → units ≡ value * 10 ^ (7 - (end - first)) → fraction.Digits units false ≡ fraction_of (rest w first)
+      pub short_is : (units : ℕ) → units ≡ value * 10 ^ (7 - (end - first)) → Some (size units false) ≡ fraction_of (rest w first)
       unfolding every
       short_is units u =
           let l = rest w first in

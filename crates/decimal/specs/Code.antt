@@ -1,5 +1,5 @@
 -- What the code holds on its way: a few digits, the digits that are kept, and the size that they come to.
-use Rattle.std.specs.Prelude.{◌≡◌, Bool, true, false, cond, not, ◌||◌, List, [], ◌∷◌, ℕ, ◌+◌, ◌-◌, ◌*◌, ◌/◌, ◌%◌, ◌^◌, ◌≤◌, ◌<◌, min, eqb, leb, ltb, length, take, drop}
+use Rattle.std.specs.Prelude.{◌≡◌, Bool, true, false, cond, not, ◌||◌, List, [], ◌∷◌, ℕ, ◌+◌, ◌-◌, ◌*◌, ◌/◌, ◌%◌, ◌^◌, ◌≤◌, ◌<◌, min, eqb, leb, ltb, length, take, drop, Option, Some, None, Result, Ok, Err}
 use Rattle.lists.specs.Lists.{every}
 use Rattle.scan.specs.Bytes.{is_digit, is_sign}
 use Rattle.scan.specs.Front.{rest, begins, after_one, is_nil}
@@ -8,15 +8,10 @@ use Rattle.number.specs.Lexeme.{is_e, is_exponent, is_decimal, is_plain}
 use Rattle.decimal.specs.declared.Kept.{Kept}
 use Rattle.decimal.specs.declared.Size.{Size}
 use Rattle.decimal.specs.declared.Exponent.{Exponent}
-use Rattle.decimal.specs.declared.Tail.{Tail}
-use Rattle.decimal.specs.declared.Tail.TheVariants as tail
-use Rattle.decimal.specs.declared.Fraction.{Fraction}
-use Rattle.decimal.specs.declared.Fraction.TheVariants as fraction
 use Rattle.decimal.specs.declared.Plain.{Plain}
-use Rattle.decimal.specs.declared.Plain.TheVariants as plain
-use Rattle.decimal.specs.declared.Scaled.{Scaled}
-use Rattle.decimal.specs.declared.Scaled.TheVariants as scaled
 use Rattle.decimal.specs.Decimal.{leading, value_of, is_minus, Decimal, unsigned_decimal, written}
+use Rattle.rounding.specs.declared.NoSides.{NoSides}
+use Rattle.rounding.specs.declared.NoSides.TheVariants.{Named, Beyond, NoNumber}
 use Rattle.rounding.specs.Rounding.{size_limit, is_over}
 use Rattle.decimal.specs.Units.{unit_places, whole_units, is_left, is_far, is_large}
 
@@ -32,15 +27,24 @@ is_nought b = eqb b 48
 abbrev pub any_left : List ℕ → Bool
 any_left l = not (every is_nought l)
 
-unfoldable pub tail_of : List ℕ → Tail
-tail_of l = cond (every is_digit l) (tail.Digits (any_left l)) tail.Other
+-- whether one of them isn't 0, if all are digits
+unfoldable pub tail_of : List ℕ → Option Bool
+tail_of l = cond (every is_digit l) (Some (any_left l)) None
+
+-- the number that they say, if all are digits
+abbrev pub number_of : List ℕ → Option ℕ
+number_of l = cond (every is_digit l) (Some (value_of l)) None
+
+-- a size in units: whole ones, and whether something is left over
+abbrev pub size : ℕ → Bool → Size
+size whole rest = record { whole = whole; rest = rest }
 
 -- those after a point, in units: the first seven, filled up with zeros
-unfoldable pub fraction_of : List ℕ → Fraction
+unfoldable pub fraction_of : List ℕ → Option Size
 fraction_of l =
     cond (every is_digit l)
-    (fraction.Digits (value_of (take unit_places l) * 10 ^ (unit_places - length l)) (any_left (drop unit_places l)))
-    fraction.Other
+    (Some (size (value_of (take unit_places l) * 10 ^ (unit_places - length l)) (any_left (drop unit_places l))))
+    None
 
 -- ---- digits of any number: so many are kept as a u64 holds, and of those after them it is known only how many they are and whether one isn't 0
 abbrev pub kept : ℕ → ℕ → Bool → ℕ → Kept
@@ -64,19 +68,18 @@ pub record Keeps (w : List ℕ) (k r : Kept) : Type 0 where
   pub dropped : r.dropped ≤ r.end
 
 -- ---- an exponent, at what follows the digits: its size is held one above the limit
-unfoldable pub exponent_of : List ℕ → Exponent
-exponent_of l = record {
-  good = is_exponent is_nil l;
-  lowers = begins is_minus (after_one is_e l);
-  size = min (value_of (leading is_digit (after_one is_sign (after_one is_e l)))) 10000;
-}
+abbrev pub exponent : Bool → ℕ → Exponent
+exponent lowers size = record { lowers = lowers; size = size }
 
--- ---- a size in units: whole ones, held one above the limit, and whether something is left over
+unfoldable pub exponent_of : List ℕ → Option Exponent
+exponent_of l =
+    cond (is_exponent is_nil l)
+    (Some (exponent (begins is_minus (after_one is_e l)) (min (value_of (leading is_digit (after_one is_sign (after_one is_e l)))) 10000)))
+    None
+
+-- ---- a size in units: whole ones held one above the limit
 abbrev pub held : ℕ
 held = size_limit + 1
-
-abbrev pub size : ℕ → Bool → Size
-size whole rest = record { whole = whole; rest = rest }
 
 -- so many tens above the line, and so many below it
 abbrev pub size_of : Kept → ℕ → ℕ → Size
@@ -91,11 +94,12 @@ pub record SizeIs (x : Decimal) (whole : ℕ) (rest : Bool) : Type 0 where
   pub units : is_over whole rest ≡ false → whole ≡ whole_units x
   pub left : is_over whole rest ≡ false → rest ≡ is_left x
 
--- of a text behind its sign: whether it is a decimal, and if so its size
-abbrev pub TellsSize : List ℕ → Scaled → Type 0
-TellsSize l (scaled.Size whole rest) = (is_decimal is_nil l ≡ true) × SizeIs (unsigned_decimal false l) whole rest
-TellsSize l scaled.Far = (is_decimal is_nil l ≡ true) × (is_far (unsigned_decimal false l) ≡ true)
-TellsSize l scaled.Other = is_decimal is_nil l ≡ false
+-- of a text behind its sign: whether it is a decimal, and if so its size; it is never told to be a word
+abbrev pub TellsSize : List ℕ → Result Size NoSides → Type 0
+TellsSize l (Ok s) = (is_decimal is_nil l ≡ true) × SizeIs (unsigned_decimal false l) s.whole s.rest
+TellsSize l (Err Named) = ⊥
+TellsSize l (Err Beyond) = (is_decimal is_nil l ≡ true) × (is_far (unsigned_decimal false l) ≡ true)
+TellsSize l (Err NoNumber) = is_decimal is_nil l ≡ false
 
 -- ---- a text that has no exponent, is no word and has at most ten digits before its point: its size is told at once
 pub record PlainSize (w : List ℕ) (negative : Bool) (whole : ℕ) (rest : Bool) : Type 0 where
@@ -105,6 +109,6 @@ pub record PlainSize (w : List ℕ) (negative : Bool) (whole : ℕ) (rest : Bool
   pub units : whole ≡ whole_units (written w)
   pub left : rest ≡ is_left (written w)
 
-abbrev pub TellsPlain : List ℕ → Plain → Type 0
-TellsPlain w (plain.Told negative whole rest) = PlainSize w negative whole rest
-TellsPlain w plain.Other = Unit {0}
+abbrev pub TellsPlain : List ℕ → Option Plain → Type 0
+TellsPlain w (Some p) = PlainSize w p.minus p.size.whole p.size.rest
+TellsPlain w None = Unit {0}

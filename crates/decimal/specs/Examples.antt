@@ -1,20 +1,18 @@
 -- Worked examples of this crate's definitions, by computation: the parts of a decimal as they are written, its fraction, its units, and what each sort of text
 -- comes to.
-use Rattle.std.specs.Prelude.{◌≡◌, refl, Bool, true, false, ◌&&◌, List, [], ◌∷◌, map, ℕ, eqb, ℤ, pos, neg_ℤ, length, replicate}
+use Rattle.std.specs.Prelude.{◌≡◌, refl, Bool, true, false, ◌&&◌, List, [], ◌∷◌, map, ℕ, eqb, ℤ, pos, neg_ℤ, length, replicate, Some, None, Ok, Err}
 use Rattle.lists.specs.Lists.{every, passing, bytes_that}
 use Rattle.scan.specs.Text.{bytes}
 use Rattle.scan.specs.Bytes.{is_digit}
 use Rattle.scan.specs.Front.{begins, after_one, after_all, is_nil}
 use Rattle.words.specs.Words.{same_word}
 use Rattle.number.specs.Lexeme.{is_named, is_digits, is_exponent, is_decimal, is_unsigned, is_lexeme}
-use Rattle.rounding.specs.declared.Reckoned.{Reckoned}
-use Rattle.rounding.specs.declared.Reckoned.TheVariants.{Sides, Named, Beyond, NoNumber}
-use Rattle.decimal.specs.declared.Tail.TheVariants as tail
-use Rattle.decimal.specs.declared.Fraction.TheVariants as fraction
+use Rattle.rounding.specs.declared.NoSides.TheVariants.{Named, Beyond, NoNumber}
+use Rattle.rounding.specs.Rounding.{Reckoned, sides}
 use Rattle.decimal.specs.Decimal.{leading, read_on, value_of, Decimal, written, above, below, numerator, denominator, SameNumber, alike, nought}
 use Rattle.decimal.specs.Units.{unit_places, exponent_limit, whole_units, is_left, low, high, is_far, is_large}
 use Rattle.decimal.specs.Reckon.{sides_of, reckoned}
-use Rattle.decimal.specs.Code.{raw_on, tail_of, fraction_of, kept, keep_one, keep_all, exponent_of, size, size_of}
+use Rattle.decimal.specs.Code.{raw_on, tail_of, fraction_of, kept, keep_one, keep_all, exponent, exponent_of, size, size_of}
 
 neg : ℕ → ℤ
 neg n = neg_ℤ (pos n)
@@ -25,10 +23,14 @@ decimal negative digits places lowers exponent = record { negative = negative; d
 
 -- what comes to itself, low and high
 exactly : ℤ → Reckoned
-exactly z = Sides z z
+exactly z = Ok (sides z z)
+
+-- what lies between two units
+between : ℤ → ℤ → Reckoned
+between low high = Ok (sides low high)
 
 all : ℕ
-unfolding neg decimal exactly every passing begins after_one after_all is_nil same_word is_named is_digits is_exponent is_decimal is_unsigned is_lexeme leading read_on written whole_units is_left low high is_large sides_of reckoned
+unfolding neg decimal exactly between every passing begins after_one after_all is_nil same_word is_named is_digits is_exponent is_decimal is_unsigned is_lexeme leading read_on written whole_units is_left low high is_large sides_of reckoned
 all = 0
 
 -- ---- digits
@@ -117,11 +119,11 @@ exact = (refl, refl, refl, refl, refl, refl, refl, refl, refl, refl, refl, refl)
 
 -- "lows rounded down, highs rounded up", "toward minus infinity for lows": less than a unit apart
 rounded :
-    (reckoned (bytes "0.00000001") ≡ Sides (pos 0) (pos 1)) × (reckoned (bytes "-0.00000001") ≡ Sides (neg 1) (pos 0))
-    × (reckoned (bytes "0.00000009") ≡ Sides (pos 0) (pos 1)) × (reckoned (bytes "-0.00000009") ≡ Sides (neg 1) (pos 0))
-    × (reckoned (bytes "1.23456789") ≡ Sides (pos 12345678) (pos 12345679)) × (reckoned (bytes "-1.23456789") ≡ Sides (neg 12345679) (neg 12345678))
-    × (reckoned (bytes "1.23456780000000000000000000001") ≡ Sides (pos 12345678) (pos 12345679)) × (reckoned (bytes "-15e-8") ≡ Sides (neg 2) (neg 1))
-    × (reckoned (bytes "0.1e-9") ≡ Sides (pos 0) (pos 1)) × (reckoned (bytes "-1e-30") ≡ Sides (neg 1) (pos 0))
+    (reckoned (bytes "0.00000001") ≡ between (pos 0) (pos 1)) × (reckoned (bytes "-0.00000001") ≡ between (neg 1) (pos 0))
+    × (reckoned (bytes "0.00000009") ≡ between (pos 0) (pos 1)) × (reckoned (bytes "-0.00000009") ≡ between (neg 1) (pos 0))
+    × (reckoned (bytes "1.23456789") ≡ between (pos 12345678) (pos 12345679)) × (reckoned (bytes "-1.23456789") ≡ between (neg 12345679) (neg 12345678))
+    × (reckoned (bytes "1.23456780000000000000000000001") ≡ between (pos 12345678) (pos 12345679)) × (reckoned (bytes "-15e-8") ≡ between (neg 2) (neg 1))
+    × (reckoned (bytes "0.1e-9") ≡ between (pos 0) (pos 1)) × (reckoned (bytes "-1e-30") ≡ between (neg 1) (pos 0))
 unfolding all
 rounded = (refl, refl, refl, refl, refl, refl, refl, refl, refl, refl)
 
@@ -129,33 +131,33 @@ rounded = (refl, refl, refl, refl, refl, refl, refl, refl, refl, refl)
 at_limit :
     (reckoned (bytes "1e10") ≡ exactly (pos 100000000000000000)) × (reckoned (bytes "-1e10") ≡ exactly (neg 100000000000000000)) × (reckoned (bytes "10000000000") ≡ exactly (pos 100000000000000000)) × (reckoned (bytes "10000000000.000000000000000") ≡ exactly (pos 100000000000000000))
     × (reckoned (bytes "100000000000000000000e-10") ≡ exactly (pos 100000000000000000))
-    × (reckoned (bytes "9999999999.99999999") ≡ Sides (pos 99999999999999999) (pos 100000000000000000)) × (reckoned (bytes "-9999999999.99999999") ≡ Sides (neg 100000000000000000) (neg 99999999999999999))
+    × (reckoned (bytes "9999999999.99999999") ≡ between (pos 99999999999999999) (pos 100000000000000000)) × (reckoned (bytes "-9999999999.99999999") ≡ between (neg 100000000000000000) (neg 99999999999999999))
 unfolding all
 at_limit = (refl, refl, refl, refl, refl, refl, refl)
 
 -- anything more is beyond it: "exact, before rounding"
 over :
     map reckoned (bytes "10000000000.00000001" ∷ bytes "-10000000000.00000001" ∷ bytes "10000000000.0000001" ∷ bytes "-10000000000.0000001" ∷ bytes "1e11" ∷ bytes "-1e11" ∷ bytes "10000000001" ∷ bytes "99999999999999999999999999" ∷ bytes "100000000000000000001e-10" ∷ bytes "1e30" ∷ [])
-    ≡ replicate 10 Beyond
+    ≡ replicate 10 (Err Beyond)
 unfolding all
 over = refl
 
 -- "an exponent beyond 9,999 either way": as it is written, also of 0
-far : map reckoned (bytes "0e10000" ∷ bytes "0e-10000" ∷ bytes "1e10000" ∷ bytes "1e-10000" ∷ bytes "0e+0010000" ∷ bytes "0e123456" ∷ []) ≡ replicate 6 Beyond
+far : map reckoned (bytes "0e10000" ∷ bytes "0e-10000" ∷ bytes "1e10000" ∷ bytes "1e-10000" ∷ bytes "0e+0010000" ∷ bytes "0e123456" ∷ []) ≡ replicate 6 (Err Beyond)
 unfolding all
 far = refl
 
-near : (is_far (written (bytes "0e9999")) ≡ false) × (is_far (written (bytes "0.1e-9999")) ≡ false) × (is_far (written (bytes "0e10000")) ≡ true) × (is_far (written (bytes "0e-10000")) ≡ true) × (reckoned (bytes "0e9999") ≡ exactly (pos 0)) × (reckoned (bytes "0.1e-9999") ≡ Sides (pos 0) (pos 1)) × (reckoned (bytes "-0e-09999") ≡ exactly (pos 0)) × (reckoned (bytes "1e9999") ≡ Beyond)
+near : (is_far (written (bytes "0e9999")) ≡ false) × (is_far (written (bytes "0.1e-9999")) ≡ false) × (is_far (written (bytes "0e10000")) ≡ true) × (is_far (written (bytes "0e-10000")) ≡ true) × (reckoned (bytes "0e9999") ≡ exactly (pos 0)) × (reckoned (bytes "0.1e-9999") ≡ between (pos 0) (pos 1)) × (reckoned (bytes "-0e-09999") ≡ exactly (pos 0)) × (reckoned (bytes "1e9999") ≡ Err Beyond)
 unfolding all
 near = (refl, refl, refl, refl, refl, refl, refl, refl)
 
 -- a word comes to itself, with any sign and in any case
-words : map reckoned (bytes "inf" ∷ bytes "-INF" ∷ bytes "+Inf" ∷ bytes "infinity" ∷ bytes "-InFiNiTy" ∷ bytes "nan" ∷ bytes "-NaN" ∷ []) ≡ replicate 7 Named
+words : map reckoned (bytes "inf" ∷ bytes "-INF" ∷ bytes "+Inf" ∷ bytes "infinity" ∷ bytes "-InFiNiTy" ∷ bytes "nan" ∷ bytes "-NaN" ∷ []) ≡ replicate 7 (Err Named)
 unfolding all
 words = refl
 
 -- what isn't a number's text
-none : map reckoned ([] ∷ bytes "x" ∷ bytes "-" ∷ bytes "." ∷ bytes "1e" ∷ bytes "1e+" ∷ bytes "1.2.3" ∷ bytes "4x" ∷ bytes "infi" ∷ bytes "1e10000x" ∷ []) ≡ replicate 10 NoNumber
+none : map reckoned ([] ∷ bytes "x" ∷ bytes "-" ∷ bytes "." ∷ bytes "1e" ∷ bytes "1e+" ∷ bytes "1.2.3" ∷ bytes "4x" ∷ bytes "infi" ∷ bytes "1e10000x" ∷ []) ≡ replicate 10 (Err NoNumber)
 unfolding all
 none = refl
 
@@ -165,12 +167,12 @@ unfolding raw_on tail_of fraction_of keep_all exponent_of
 code = 0
 
 -- seven noughts, each as its byte; digits up to a text's end
-tails : (raw_on 0 (bytes "0000000") ≡ 53333328) × (tail_of [] ≡ tail.Digits false) × (tail_of (bytes "000") ≡ tail.Digits false) × (tail_of (bytes "010") ≡ tail.Digits true) × (tail_of (bytes "01x") ≡ tail.Other)
+tails : (raw_on 0 (bytes "0000000") ≡ 53333328) × (tail_of [] ≡ Some false) × (tail_of (bytes "000") ≡ Some false) × (tail_of (bytes "010") ≡ Some true) × (tail_of (bytes "01x") ≡ None)
 unfolding all code
 tails = (refl, refl, refl, refl, refl)
 
 -- digits after a point: fewer than seven, seven, more
-after_point : (fraction_of [] ≡ fraction.Digits 0 false) × (fraction_of (bytes "5") ≡ fraction.Digits 5000000 false) × (fraction_of (bytes "1234567") ≡ fraction.Digits 1234567 false) × (fraction_of (bytes "12345670") ≡ fraction.Digits 1234567 false) × (fraction_of (bytes "123456701") ≡ fraction.Digits 1234567 true) × (fraction_of (bytes "1e5") ≡ fraction.Other)
+after_point : (fraction_of [] ≡ Some (size 0 false)) × (fraction_of (bytes "5") ≡ Some (size 5000000 false)) × (fraction_of (bytes "1234567") ≡ Some (size 1234567 false)) × (fraction_of (bytes "12345670") ≡ Some (size 1234567 false)) × (fraction_of (bytes "123456701") ≡ Some (size 1234567 true)) × (fraction_of (bytes "1e5") ≡ None)
 unfolding all code
 after_point = (refl, refl, refl, refl, refl, refl)
 
@@ -181,9 +183,9 @@ keeping = (refl, refl, refl, refl)
 
 -- an exponent that ends the text, held at 10000, or none; and what is no exponent: no `e`, no digit behind it, more behind its digits
 exponents :
-    (exponent_of [] ≡ record { good = true; lowers = false; size = 0 }) × (exponent_of (bytes "e5") ≡ record { good = true; lowers = false; size = 5 })
-    × (exponent_of (bytes "E-9999") ≡ record { good = true; lowers = true; size = 9999 }) × (exponent_of (bytes "e+123456") ≡ record { good = true; lowers = false; size = 10000 })
-    × ((exponent_of (bytes "x5")).good ≡ false) × ((exponent_of (bytes "5")).good ≡ false) × ((exponent_of (bytes "e")).good ≡ false) × ((exponent_of (bytes "e-")).good ≡ false) × ((exponent_of (bytes "e5x")).good ≡ false) × ((exponent_of (bytes "e5.")).good ≡ false)
+    (exponent_of [] ≡ Some (exponent false 0)) × (exponent_of (bytes "e5") ≡ Some (exponent false 5))
+    × (exponent_of (bytes "E-9999") ≡ Some (exponent true 9999)) × (exponent_of (bytes "e+123456") ≡ Some (exponent false 10000))
+    × (exponent_of (bytes "x5") ≡ None) × (exponent_of (bytes "5") ≡ None) × (exponent_of (bytes "e") ≡ None) × (exponent_of (bytes "e-") ≡ None) × (exponent_of (bytes "e5x") ≡ None) × (exponent_of (bytes "e5.") ≡ None)
 unfolding all code
 exponents = (refl, refl, refl, refl, refl, refl, refl, refl, refl, refl)
 

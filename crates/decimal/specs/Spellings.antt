@@ -1,22 +1,19 @@
 -- Decimals spelt otherwise (request 2026-03: `1e1`, `10` and `10.0` give the same box): texts that are decimals within the limit of the exponent, and worked
 -- examples of texts that are one number, by computation.
-use Rattle.std.specs.Prelude.{◌≡◌, refl, Bool, true, false, List, ℕ}
+use Rattle.std.specs.Prelude.{◌≡◌, refl, Bool, true, false, List, ℕ, Ok, Err}
 use Rattle.scan.specs.Text as text
 use Rattle.scan.specs.Bytes.{is_sign}
 use Rattle.scan.specs.Front.{begins, after_one, after_all, is_nil}
 use Rattle.words.specs.Words.{same_word}
 use Rattle.number.specs.Lexeme.{at_stop, is_named, is_digits, is_exponent, is_decimal, is_unsigned, is_lexeme}
-use Rattle.rounding.specs.declared.Reckoned.{Reckoned}
-use Rattle.rounding.specs.declared.Reckoned.TheVariants.{Sides, Named, Beyond, NoNumber}
+use Rattle.rounding.specs.Rounding.{Reckoned}
 use Rattle.decimal.specs.Decimal.{leading, read_on, written, SameNumber, alike, nought}
 use Rattle.decimal.specs.Units.{is_far}
 
 -- a number's text that comes to a low and a high side, and is not refused
 abbrev pub is_sides : Reckoned → Bool
-is_sides (Sides low high) = true
-is_sides Named = false
-is_sides Beyond = false
-is_sides NoNumber = false
+is_sides (Ok s) = true
+is_sides (Err e) = false
 
 -- a number's text that is no word, its exponent within 9,999
 pub record Written (l : List ℕ) : Type 0 where

@@ -7,7 +7,8 @@ use borrow.Author.Tests.{ltb-true, le-ltb}
 use lib.Dec.{T}
 use lib.IntN.{ℤ, pos, negsuc, neg_ℤ}
 use lib.Signed.{lt_z, lt_z_yes, lt_z_no, <ℤ-≤ℤ_trans}
-use Rattle.bounds.specs.Bounds.{Bounds, lower, higher, merge, edge, nothing}
+use Rattle.bounds.specs.declared.Bounds.{Bounds}
+use Rattle.bounds.specs.Bounds.{lower, higher, merge, edge, nothing}
 
 -- ---- the order, by its test
 told : (b : Bool) → b ≡ true → T b

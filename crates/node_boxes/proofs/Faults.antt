@@ -15,7 +15,9 @@ use Rattle.scan.specs.Front.{after_one}
 use Rattle.number.specs.Lexeme.{is_named, is_lexeme}
 use Rattle.store.specs.Rows.{span_start_at}
 use Rattle.tree.specs.Tree.{Coord, Tree, Lexeme, coord_texts, GoodTree}
-use Rattle.rounding.specs.declared.Reckoned.TheVariants.{Sides, Named, Beyond, NoNumber}
+use Rattle.std.specs.Prelude.{Ok, Err}
+use Rattle.rounding.specs.declared.NoSides.TheVariants.{Named, Beyond, NoNumber}
+use Rattle.rounding.specs.Rounding.{sides}
 use Rattle.decimal.specs.Decimal.{written}
 use Rattle.decimal.specs.Units.{low, high, is_far, is_large}
 use Rattle.decimal.specs.Reckon.{sides_of, reckoned}
@@ -36,7 +38,7 @@ told : (l : List ℕ) → Lexeme l → Told l (offence_of (reckoned l))
 unfolding reckoned sides_of
 told l e = rw e (go (is_named (after_one is_sign l)) refl (is_far (written l)) refl (is_large (written l)) refl)
   where
-    go : (b : Bool) → is_named (after_one is_sign l) ≡ b → (c : Bool) → is_far (written l) ≡ c → (d : Bool) → is_large (written l) ≡ d → Told l (offence_of (cond b Named (cond c Beyond (cond d Beyond (Sides (low (written l)) (high (written l)))))))
+    go : (b : Bool) → is_named (after_one is_sign l) ≡ b → (c : Bool) → is_far (written l) ≡ c → (d : Bool) → is_large (written l) ≡ d → Told l (offence_of (cond b (Err Named) (cond c (Err Beyond) (cond d (Err Beyond) (Ok (sides (low (written l)) (high (written l))))))))
     go true x c y d z = offends (not_finite x) (λ n. omega (arith, n))
     go false x true y d z = offends (too_far x y) (λ n. omega (arith, n))
     go false x false y true z = offends (too_large x y z) (λ n. omega (arith, n))
@@ -47,7 +49,7 @@ pub clean_number : (l : List ℕ) → Clean l → offence_of (reckoned l) ≡ 0
 unfolding reckoned sides_of
 clean_number l c = go (is_lexeme l)
   where
-    go : (b : Bool) → offence_of (cond b (cond (is_named (after_one is_sign l)) Named (cond (is_far (written l)) Beyond (cond (is_large (written l)) Beyond (Sides (low (written l)) (high (written l)))))) NoNumber) ≡ 0
+    go : (b : Bool) → offence_of (cond b (cond (is_named (after_one is_sign l)) (Err Named) (cond (is_far (written l)) (Err Beyond) (cond (is_large (written l)) (Err Beyond) (Ok (sides (low (written l)) (high (written l))))))) (Err NoNumber)) ≡ 0
     go true = rw (c.no_word, c.near, c.small)
     go false = refl
 

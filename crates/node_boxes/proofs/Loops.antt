@@ -18,9 +18,10 @@ use Rattle.nodes.specs.declared.Met.{Met}
 use Rattle.nodes.specs.declared.Met.TheVariants.{Node, End}
 use Rattle.walk.specs.Walk.{CoordinatesIn}
 use Rattle.refusals.specs.Refusals.{ill_formed_store}
-use Rattle.rounding.specs.declared.Reckoned.{Reckoned}
+use Rattle.rounding.specs.Rounding.{Reckoned}
 use Rattle.bounds.specs.declared.BoxAnswer.{BoxAnswer}
-use Rattle.bounds.specs.Bounds.{Bounds, opened, settled, closed, box_answer}
+use Rattle.bounds.specs.declared.Bounds.{Bounds}
+use Rattle.bounds.specs.Bounds.{opened, settled, closed, box_answer}
 use Rattle.node_boxes.specs.declared.Seen.{Seen}
 use Rattle.node_boxes.specs.Boxes.{fine, or_first}
 use Rattle.node_boxes.specs.Turns.{reckoned_at, offence_in, seen_next, seen_up_to, seen_one, seen_on, axis_next, sided_up_to, around_on, own, own_box, ended_leaf, entered, good_by, offence_by, table_by, verdict, FilledBy}

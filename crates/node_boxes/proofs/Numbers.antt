@@ -1,28 +1,31 @@
 -- Laws of a node's numbers, one after the other.
 -- Assumes nothing.
 use mathlib.Core.Path.{◌≡◌, refl, sym, ap, ap₂, ◌∙◌}
-use mathlib.Core.Bool.{Bool, true, false, and-true}
-use mathlib.Core.List.{List, [], ◌∷◌}
+use mathlib.Core.Bool.{Bool, true, false, ◌&&◌, and-true, true≢false}
+use mathlib.Core.List.{List}
 use Prim.Native.Nat.{ℕ, zero, suc, ◌+◌, ◌-◌, ◌*◌, ◌≤◌, ◌<◌}
 use native.Mathlib.Omega.{arith}
 use native.Mathlib.Nat.{suc-mul}
-use borrow.Author.Tests.{le-leb, lt-leb}
-use lib.IntN.{ℤ, pos}
-use lib.ListN.{length, get_or, set}
+use borrow.Author.Tests.{le-leb, lt-leb, ltb-true, ltb-false}
+use lib.Dec.{ltb}
+use lib.IntN.{ℤ}
+use lib.ListN.{length}
 use Rattle.scan.specs.Front.{part}
 use Rattle.store.specs.Rows.{span_start_at, span_length_at}
 use Rattle.shape.specs.Numbers.{is_number_at}
 use Rattle.shape.proofs.Numbers.{text_all}
-use Rattle.rounding.specs.declared.Reckoned.{Reckoned}
-use Rattle.rounding.specs.declared.Reckoned.TheVariants.{NoNumber}
+use Rattle.std.specs.Prelude.{Err}
+use Rattle.rounding.specs.declared.NoSides.TheVariants.{NoNumber}
+use Rattle.rounding.specs.Rounding.{Reckoned}
 use Rattle.decimal.specs.Reckon.{reckoned}
-use Rattle.bounds.specs.Bounds.{Bounds, lower, higher}
+use Rattle.bounds.specs.declared.Bounds.{Bounds}
+use Rattle.bounds.specs.Bounds.{box, lower, higher}
 use Rattle.node_boxes.specs.declared.Seen.{Seen}
-use Rattle.node_boxes.specs.Turns.{reckoned_at, are_good, seen, offence_in, seen_next, seen_up_to, with_others, seen_one, seen_on, bounds_in, widened_axis, axis_next, sided_up_to, around_on}
+use Rattle.node_boxes.specs.Turns.{reckoned_at, are_good, seen, offence_in, seen_next, seen_up_to, with_others, seen_one, seen_on, widened_axis, axis_next, sided_up_to, around_on}
 
 -- ---- what a number row comes to: its span lies in the text, or not
 module _ (text numbers : List ℕ) (i start len : ℕ) (s : start ≡ span_start_at numbers i) (e : len ≡ span_length_at numbers i) where
-  pub reckoned_off : length text < start + len → NoNumber ≡ reckoned_at text numbers i
+  pub reckoned_off : length text < start + len → (Err NoNumber) ≡ reckoned_at text numbers i
   unfolding reckoned_at
   reckoned_off h = rw (← s, ← e, lt-leb (start + len) (length text) h)
 
@@ -31,27 +34,26 @@ module _ (text numbers : List ℕ) (i start len : ℕ) (s : start ≡ span_start
   reckoned_in r h is = rw (← s, ← e, le-leb (start + len) (length text) h) (is ∙ ap reckoned (text_all text numbers i start len s e))
 
 -- ---- numbers that are only some
-module _ (text numbers : List ℕ) (first n i : ℕ) where
-  step : i < n → n - i ≡ suc (n - (i + 1))
-  step h = omega arith
+-- one that is none stands behind one that is some
+later : (text numbers : List ℕ) (first m : ℕ) → is_number_at text numbers first ≡ true → (i : ℕ) × (first ≤ i) × (i < m) × (is_number_at text numbers i ≡ false) → (i : ℕ) × (first + 1 ≤ i) × (i < m) × (is_number_at text numbers i ≡ false)
+later text numbers first m e b = (b.0, go (ltb first b.0) refl, b.2, b.3)
+  where
+    go : (t : Bool) → ltb first b.0 ≡ t → first + 1 ≤ b.0
+    go true q = omega (arith, ltb-true first b.0 q)
+    go false q =
+        let z : first ≡ b.0 = omega (arith, ltb-false first b.0 q, b.1) in
+        absurd (true≢false (sym e ∙ ap (is_number_at text numbers) z ∙ b.3))
 
-  pub good_on : i < n → is_number_at text numbers (first + i) ≡ true → are_good text numbers (first + (i + 1)) (n - (i + 1)) ≡ are_good text numbers (first + i) (n - i)
-  unfolding are_good
-  good_on h t = let a : first + (i + 1) ≡ first + i + 1 = omega arith in rw (step h, t, a)
-
-  pub good_off : i < n → is_number_at text numbers (first + i) ≡ false → false ≡ are_good text numbers (first + i) (n - i)
-  unfolding are_good
-  good_off h t = rw (step h, t)
-
-  pub good_end : n ≤ i → true ≡ are_good text numbers (first + i) (n - i)
-  unfolding are_good
-  good_end h = let z : n - i ≡ 0 = omega arith in rw z
-
-pub good_start : (text numbers : List ℕ) (first n : ℕ) → are_good text numbers (first + 0) (n - 0) ≡ are_good text numbers first n
-good_start text numbers first n =
-    let a : first + 0 ≡ first = omega arith in
-    let z : n - 0 ≡ n = omega arith in
-    rw (a, z)
+pub good_told : (text numbers : List ℕ) (first n m : ℕ) (b : Bool) → m ≡ first + n → (b ≡ true → (i : ℕ) → first ≤ i → i < m → is_number_at text numbers i ≡ true) → (b ≡ false → (i : ℕ) × (first ≤ i) × (i < m) × (is_number_at text numbers i ≡ false)) → b ≡ are_good text numbers first n
+unfolding are_good
+good_told text numbers first zero m true s good bad = refl
+good_told text numbers first zero m false s good bad = let b = bad refl in absurd (omega (arith, b.1, b.2))
+good_told text numbers first (suc n) m b s good bad = go (is_number_at text numbers first) refl b good bad (λ c g h. good_told text numbers (first + 1) n m c (omega arith) g h)
+  where
+    go : (t : Bool) → is_number_at text numbers first ≡ t → (b : Bool) → (b ≡ true → (i : ℕ) → first ≤ i → i < m → is_number_at text numbers i ≡ true) → (b ≡ false → (i : ℕ) × (first ≤ i) × (i < m) × (is_number_at text numbers i ≡ false)) → ((c : Bool) → (c ≡ true → (i : ℕ) → first + 1 ≤ i → i < m → is_number_at text numbers i ≡ true) → (c ≡ false → (i : ℕ) × (first + 1 ≤ i) × (i < m) × (is_number_at text numbers i ≡ false)) → c ≡ are_good text numbers (first + 1) n) → b ≡ (t && are_good text numbers (first + 1) n)
+    go true e b good bad others = others b (λ t i h l. good t i (omega arith) l) (λ f. later text numbers first m e (bad f))
+    go false e true good bad others = absurd (true≢false (sym (good refl first (omega arith) (omega arith)) ∙ e))
+    go false e false good bad others = refl
 
 -- ---- coordinates: one, and the others
 module _ (text numbers : List ℕ) (w at n : ℕ) where
@@ -97,15 +99,9 @@ module _ (text numbers : List ℕ) (at k : ℕ) where
   unfolding sided_up_to
   sided_next b e = let z : k + 1 ≡ suc k = omega arith in rw z e
 
--- the lows and the highs of both axes, one of which is widened
-pub axis_set : (lows highs : List ℤ) (axis : ℕ) (low high : ℤ) → length lows ≡ 2 → length highs ≡ 2 → axis < 2 →
-    bounds_in (set lows axis (lower (get_or lows axis (pos 0)) low)) (set highs axis (higher (get_or highs axis (pos 0)) high)) ≡ widened_axis axis low high (bounds_in lows highs)
-axis_set [] highs axis low high l h a = absurd (omega arith)
-axis_set (p ∷ []) highs axis low high l h a = absurd (omega arith)
-axis_set (p ∷ q ∷ r ∷ ls) highs axis low high l h a = absurd (omega arith)
-axis_set (p ∷ q ∷ []) [] axis low high l h a = absurd (omega arith)
-axis_set (p ∷ q ∷ []) (x ∷ []) axis low high l h a = absurd (omega arith)
-axis_set (p ∷ q ∷ []) (x ∷ y ∷ z ∷ hs) axis low high l h a = absurd (omega arith)
-axis_set (p ∷ q ∷ []) (x ∷ y ∷ []) zero low high l h a = refl
-axis_set (p ∷ q ∷ []) (x ∷ y ∷ []) (suc zero) low high l h a = refl
-axis_set (p ∷ q ∷ []) (x ∷ y ∷ []) (suc (suc k)) low high l h a = absurd (omega arith)
+-- a box is widened on an axis
+pub widened_x : (b : Bounds) (low high : ℤ) (axis : ℕ) → axis ≡ 0 → box (lower b.left low) (higher b.right high) b.bottom b.top ≡ widened_axis axis low high b
+widened_x b low high axis z = rw z
+
+pub widened_y : (b : Bounds) (low high : ℤ) (axis : ℕ) → (axis ≡ 0 → ⊥) → box b.left b.right (lower b.bottom low) (higher b.top high) ≡ widened_axis axis low high b
+widened_y b low high axis n = let z : axis ≡ suc (axis - 1) = omega arith in rw z

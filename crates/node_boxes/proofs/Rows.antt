@@ -11,7 +11,8 @@ use lib.IntN.{ℤ, pos, nat_abs}
 use lib.Signed.{non_neg}
 use lib.ListN.{length, get_or, drop, length-append}
 use lib.Seq.{sets}
-use Rattle.bounds.specs.Bounds.{Bounds, BoxRow, box, box_row, merge, nothing, box_width, box_room, five, five_of, done_row, put_five, box_cell, first_at, bounds_at, opened, widened, widened_above, settled, closed}
+use Rattle.bounds.specs.declared.Bounds.{Bounds}
+use Rattle.bounds.specs.Bounds.{BoxRow, box, box_row, merge, nothing, box_width, box_room, five, five_of, done_row, put_five, box_cell, first_at, bounds_at, opened, widened, widened_above, settled, closed}
 
 -- rows, and what lies behind them
 abbrev pub over : List BoxRow → List ℤ → List ℤ

@@ -15,7 +15,8 @@ use Rattle.decimal.specs.Units.{low, high}
 use Rattle.decimal.specs.Reckon.{reckoned}
 use Rattle.decimal.proofs.Bounds.{low_range, high_range}
 use Rattle.decimal.proofs.Reckonings.{each_reckoned, low_not_past}
-use Rattle.bounds.specs.Bounds.{Bounds, box, edge}
+use Rattle.bounds.specs.declared.Bounds.{Bounds}
+use Rattle.bounds.specs.Bounds.{box, edge}
 use Rattle.node_boxes.specs.Boxes.{x_text, y_text, low_in, high_in, low_x, high_x, low_y, high_y}
 use Rattle.node_boxes.proofs.Algebra.{Corner}
 

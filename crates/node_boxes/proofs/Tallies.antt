@@ -18,8 +18,9 @@ use Rattle.nodes.specs.Nodes.{above, visit_of, frame_of, onward}
 use Rattle.shape.specs.Visits.{Walker, walk_each, walk_leaf, walk_parts, walk_nest, walk_point, walk_line, walk_polygon, walk_node, walk_nothing, walk_tree}
 use Rattle.shape.specs.Numbers.{text_at, is_number_at}
 use Rattle.number.specs.Lexeme.{is_named, is_lexeme}
-use Rattle.rounding.specs.declared.Reckoned.{Reckoned}
-use Rattle.rounding.specs.declared.Reckoned.TheVariants.{Sides, Named, Beyond, NoNumber}
+use Rattle.std.specs.Prelude.{Ok, Err}
+use Rattle.rounding.specs.declared.NoSides.TheVariants.{Named, Beyond, NoNumber}
+use Rattle.rounding.specs.Rounding.{Reckoned, sides}
 use Rattle.decimal.specs.Reckon.{sides_of, reckoned}
 use Rattle.scan.specs.Bytes.{is_sign}
 use Rattle.scan.specs.Front.{after_one}
@@ -41,16 +42,16 @@ first_assoc a b c = go (eqb a.number 0) refl
 
 -- a number's text comes to a numeral, and no other bytes do
 abbrev is_numeral : Reckoned → Bool
-is_numeral (Sides low high) = true
-is_numeral Named = true
-is_numeral Beyond = true
-is_numeral NoNumber = false
+is_numeral (Ok x) = true
+is_numeral (Err Named) = true
+is_numeral (Err Beyond) = true
+is_numeral (Err NoNumber) = false
 
 numeral_reckoned : (l : List ℕ) → is_numeral (reckoned l) ≡ is_lexeme l
 unfolding reckoned sides_of
 numeral_reckoned l = go (is_lexeme l) (is_named (after_one is_sign l)) (is_far (written l)) (is_large (written l))
   where
-    go : (a b c d : Bool) → is_numeral (cond a (cond b Named (cond c Beyond (cond d Beyond (Sides (low (written l)) (high (written l)))))) NoNumber) ≡ a
+    go : (a b c d : Bool) → is_numeral (cond a (cond b (Err Named) (cond c (Err Beyond) (cond d (Err Beyond) (Ok (sides (low (written l)) (high (written l))))))) (Err NoNumber)) ≡ a
     go true true c d = refl
     go true false true d = refl
     go true false false true = refl
@@ -190,7 +191,7 @@ module _ (text numbers : List ℕ) where
   unfolding reckoned_at is_number_at text_at
   numeral_at i = go (leb (span_start_at numbers i + span_length_at numbers i) (length text))
     where
-      go : (b : Bool) → is_numeral (cond b (reckoned (text_at text numbers i)) NoNumber) ≡ (b && is_lexeme (text_at text numbers i))
+      go : (b : Bool) → is_numeral (cond b (reckoned (text_at text numbers i)) (Err NoNumber)) ≡ (b && is_lexeme (text_at text numbers i))
       go true = numeral_reckoned (text_at text numbers i)
       go false = refl
 
@@ -213,10 +214,10 @@ module _ (text numbers : List ℕ) where
 
   next_both : (i : ℕ) (x : Reckoned) (s : Seen) → Clean s → seen_next numbers i x s ≡ both s (number_seen i x)
   unfolding Clean both
-  next_both i (Sides low high) s c = sym c
-  next_both i Named s c = ap (λ g. seen g (or_first (offence_in s) (box_answer 30 (span_start_at numbers i)))) (sym (and-true s.good))
-  next_both i Beyond s c = ap (λ g. seen g (or_first (offence_in s) (box_answer 31 (span_start_at numbers i)))) (sym (and-true s.good))
-  next_both i NoNumber s c = ap₂ seen (sym (and-false s.good)) (sym (ap offence_in c))
+  next_both i (Ok x) s c = sym c
+  next_both i (Err Named) s c = ap (λ g. seen g (or_first (offence_in s) (box_answer 30 (span_start_at numbers i)))) (sym (and-true s.good))
+  next_both i (Err Beyond) s c = ap (λ g. seen g (or_first (offence_in s) (box_answer 31 (span_start_at numbers i)))) (sym (and-true s.good))
+  next_both i (Err NoNumber) s c = ap₂ seen (sym (and-false s.good)) (sym (ap offence_in c))
 
   up_to_both : (at : ℕ) (s : Seen) → Clean s → seen_up_to text numbers at 2 s ≡ both (both s (number_seen at (reckoned_at text numbers at))) (number_seen (at + 1) (reckoned_at text numbers (at + 1)))
   unfolding seen_up_to

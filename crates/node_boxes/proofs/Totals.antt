@@ -6,7 +6,8 @@ use mathlib.Core.List.{List, [], ◌∷◌, ◌++◌, map}
 use lib.IntN.{pos}
 use lib.Signed.{lt_z}
 use Rattle.tree.specs.Tree.{Coord}
-use Rattle.bounds.specs.Bounds.{Bounds, box, box_row, no_box, merge, nothing, done_row}
+use Rattle.bounds.specs.declared.Bounds.{Bounds}
+use Rattle.bounds.specs.Bounds.{box, box_row, no_box, merge, nothing, done_row}
 use Rattle.node_boxes.specs.Boxes.{low_x, high_x, low_y, high_y, lowest, highest, box_around}
 use Rattle.node_boxes.proofs.Algebra.{Inside, nothing_inside, merge_inside, merge_assoc, merge_nothing, corner_inside, merge_first, stays_wide}
 use Rattle.node_boxes.proofs.Sides.{corner, its_corner}

@@ -20,11 +20,12 @@ use Rattle.nodes.specs.declared.Met.{Met}
 use Rattle.nodes.specs.declared.Met.TheVariants as met
 use Rattle.nodes.specs.Nodes.{above, visit_of, frame_of, onward}
 use Rattle.shape.specs.Visits.{Walker, walk_each, walk_leaf, walk_parts, walk_nest, walk_point, walk_line, walk_polygon, walk_node, walk_nothing, walk_tree}
-use Rattle.rounding.specs.declared.Reckoned.{Reckoned}
-use Rattle.rounding.specs.declared.Reckoned.TheVariants.{Sides, Named, Beyond, NoNumber}
+use Rattle.std.specs.Prelude.{Ok, Err}
+use Rattle.rounding.specs.Rounding.{Reckoned}
 use Rattle.decimal.specs.Reckon.{reckoned}
 use Rattle.decimal.specs.Spellings.{is_sides}
-use Rattle.bounds.specs.Bounds.{Bounds, BoxRow, box, box_row, merge, nothing, box_width, settled, closed}
+use Rattle.bounds.specs.declared.Bounds.{Bounds}
+use Rattle.bounds.specs.Bounds.{BoxRow, box, box_row, merge, nothing, box_width, settled, closed}
 use Rattle.node_boxes.specs.Holds.{Placed}
 use Rattle.node_boxes.specs.Boxes.{low_in, high_in, point_coords, line_coords, polygon_coords, node_coords, no_coords, coords, leaf_boxes, nest_boxes, point_boxes, polygon_boxes, node_boxes, no_boxes, boxes}
 use Rattle.node_boxes.specs.Turns.{reckoned_at, axis_next, sided_up_to, around_on, entered, table_by}
@@ -52,13 +53,9 @@ placed_right (x ∷ xs) ys p = placed_right xs ys p.1
 -- an X and a Y with sides widen a box on both axes
 both_axes : (b : Bounds) (x y : Reckoned) → is_sides x ≡ true → is_sides y ≡ true → axis_next 1 y (axis_next 0 x b) ≡ merge b (box (low_in x) (high_in x) (low_in y) (high_in y))
 unfolding merge
-both_axes b (Sides l h) (Sides m k) e f = refl
-both_axes b (Sides l h) Named e f = absurd (false≢true f)
-both_axes b (Sides l h) Beyond e f = absurd (false≢true f)
-both_axes b (Sides l h) NoNumber e f = absurd (false≢true f)
-both_axes b Named y e f = absurd (false≢true e)
-both_axes b Beyond y e f = absurd (false≢true e)
-both_axes b NoNumber y e f = absurd (false≢true e)
+both_axes b (Ok x) (Ok y) e f = refl
+both_axes b (Ok x) (Err n) e f = absurd (false≢true f)
+both_axes b (Err n) y e f = absurd (false≢true e)
 
 pub wide_two : (d : ℕ) → 2 ≤ width d
 unfolding width

@@ -31,6 +31,7 @@ use Rattle.shape.specs.Store.{all_rows, all_texts, are_whole, tree_of, well_form
 use Rattle.shape.specs.Walk.{whole_walk}
 use Rattle.shape.proofs.Stores.{grown, rows_walk, texts_count, store_tree}
 use Rattle.shape.proofs.Slices.{node_count_law}
+use Rattle.store.specs.Rows.{cleared_to}
 use Rattle.bounds.specs.declared.BoxAnswer.{BoxAnswer}
 use Rattle.bounds.specs.Bounds.{BoxRow, box_width, box_room, five_of, zeros, padded, cleared, box_answer, Refuses}
 use Rattle.tree.specs.Tree.{Coord}
@@ -149,7 +150,7 @@ flat_length (r ∷ rs) = let ih = flat_length rs in omega (arith, ih)
 
 -- the table behind the rows cleared
 cleared_rows : (rs : List BoxRow) (t : List ℤ) (n m : ℕ) → length rs ≡ n → length (over rs t) ≡ m → cleared (over rs t) (n * box_width) ≡ padded (flat_map five_of rs) m
-unfolding cleared
+unfolding cleared_to
 cleared_rows rs t n m e l = rw (← e, ← l, flat_length rs, taken rs t)
 
 -- ---- the whole: what the way through the rows comes to

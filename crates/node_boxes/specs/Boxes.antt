@@ -9,8 +9,9 @@ use Rattle.refusals.specs.Refusals.{ill_formed_store, no_room, no_finite_number,
 use Rattle.store.specs.Rows.{span_start_at}
 use Rattle.tree.specs.Tree.{Coord, Node, point_n, line_n, polygon_n, multipoint_n, multiline_n, multipolygon_n, collection_n, Tree, rows}
 use Rattle.shape.specs.Store.{tree_of}
-use Rattle.rounding.specs.declared.Reckoned.{Reckoned}
-use Rattle.rounding.specs.declared.Reckoned.TheVariants.{Sides, Named, Beyond, NoNumber}
+use Rattle.std.specs.Prelude.{Ok, Err}
+use Rattle.rounding.specs.declared.NoSides.TheVariants.{Named, Beyond, NoNumber}
+use Rattle.rounding.specs.Rounding.{Reckoned}
 use Rattle.decimal.specs.Reckon.{reckoned}
 use Rattle.bounds.specs.declared.BoxAnswer.{BoxAnswer}
 use Rattle.bounds.specs.Bounds.{BoxRow, lower, higher, box, box_row, five_of, no_box, padded, box_answer}
@@ -28,16 +29,12 @@ y_text (x ∷ y ∷ c) = y
 
 -- "lows rounded down, highs rounded up"
 abbrev pub low_in : Reckoned → ℤ
-low_in (Sides low high) = low
-low_in Named = pos 0
-low_in Beyond = pos 0
-low_in NoNumber = pos 0
+low_in (Ok s) = s.low
+low_in (Err e) = pos 0
 
 abbrev pub high_in : Reckoned → ℤ
-high_in (Sides low high) = high
-high_in Named = pos 0
-high_in Beyond = pos 0
-high_in NoNumber = pos 0
+high_in (Ok s) = s.high
+high_in (Err e) = pos 0
 
 abbrev pub low_x : Coord → ℤ
 low_x c = low_in (reckoned (x_text c))
@@ -124,10 +121,10 @@ boxes (suc d) t = node_boxes (coords d) (boxes d) t
 -- ---- refusals
 -- "30 for inf or nan, 31 for an exponent beyond 9,999 either way or a scaled size over 10^17"
 abbrev pub offence_of : Reckoned → ℕ
-offence_of (Sides low high) = 0
-offence_of Named = no_finite_number
-offence_of Beyond = number_too_large
-offence_of NoNumber = 0
+offence_of (Ok s) = 0
+offence_of (Err Named) = no_finite_number
+offence_of (Err Beyond) = number_too_large
+offence_of (Err NoNumber) = 0
 
 -- nothing offends
 abbrev pub fine : BoxAnswer

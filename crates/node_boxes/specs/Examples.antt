@@ -18,13 +18,15 @@ use Rattle.nodes.specs.declared.Met.TheVariants.{Node, End, Done}
 use Rattle.nodes.specs.Nodes.{frame, above, visit_of}
 use Rattle.shape.specs.Numbers.{text_at, is_number_at, are_numbers}
 use Rattle.shape.specs.Store.{are_whole, tree_of}
-use Rattle.rounding.specs.declared.Reckoned.TheVariants.{Sides, Named, Beyond, NoNumber}
+use Rattle.std.specs.Prelude.{Ok, Err}
+use Rattle.rounding.specs.declared.NoSides.TheVariants.{Named, Beyond, NoNumber}
+use Rattle.rounding.specs.Rounding.{Reckoned}
 use Rattle.decimal.specs.Decimal.{leading, read_on, written}
 use Rattle.decimal.specs.Units.{whole_units, is_left, low, high, is_large}
 use Rattle.decimal.specs.Reckon.{sides_of, reckoned}
 use Rattle.bounds.specs.Bounds.{BoxRow, box, box_row, no_box, merge, nothing, done_row, put_five, box_cell, opened, widened, closed, zeros, padded, box_answer}
 use Rattle.node_boxes.specs.Boxes.{x_text, y_text, lowest, highest, box_around, nest_boxes, offence_of, offence_at, or_first, first_offence, fine, Outcome, boxed, refused, boxes_of, answer_of, used_boxes}
-use Rattle.node_boxes.specs.Turns.{reckoned_at, are_good, seen, unseen, found_on, seen_next, seen_up_to, with_others, seen_one, seen_on, bounds_in, widened_axis, axis_next, sided_up_to, around_on, own, own_box, ended_leaf, good_by, offence_by, entered, table_by, verdict}
+use Rattle.node_boxes.specs.Turns.{reckoned_at, are_good, seen, unseen, found_on, seen_next, seen_up_to, with_others, seen_one, seen_on, widened_axis, axis_next, sided_up_to, around_on, own, own_box, ended_leaf, good_by, offence_by, entered, table_by, verdict}
 
 -- numbers, two words, what is too large, and what is none
 text : List ℕ
@@ -64,6 +66,10 @@ neg n = neg_ℤ (pos n)
 -- a node with no rows under it
 leaf : ℕ → ℕ → ℕ → List Row
 leaf k d n = node_over k d n []
+
+-- a number's two sides
+abbrev both_sides : ℤ → ℤ → Reckoned
+both_sides low high = Ok (record { low = low; high = high })
 
 -- a row with a box
 sides : ℤ → ℤ → ℤ → ℤ → BoxRow
@@ -203,7 +209,7 @@ answered = (refl, refl, refl, refl, refl)
 
 -- what refuses each outcome of a text; the place of it; the first of two
 offences :
-    (offence_of (Sides (pos 0) (pos 1)) ∷ offence_of Named ∷ offence_of Beyond ∷ offence_of NoNumber ∷ [] ≡ 0 ∷ 30 ∷ 31 ∷ 0 ∷ [])
+    (offence_of (both_sides (pos 0) (pos 1)) ∷ offence_of (Err Named) ∷ offence_of (Err Beyond) ∷ offence_of (Err NoNumber) ∷ [] ≡ 0 ∷ 30 ∷ 31 ∷ 0 ∷ [])
     × (offence_at (n1 ++ inf) 1 30 ≡ box_answer 30 23) × (offence_at (n1 ++ inf) 1 0 ≡ box_answer 0 0)
     × (or_first (box_answer 31 5) (box_answer 30 7) ≡ box_answer 31 5) × (or_first (box_answer 0 0) (box_answer 30 7) ≡ box_answer 30 7)
     × (first_offence (n1 ++ n2 ++ n1 ++ inf) 0 ((bytes "1" ∷ bytes "2" ∷ []) ∷ (bytes "1" ∷ bytes "inf" ∷ []) ∷ []) ≡ box_answer 30 23)
@@ -231,7 +237,7 @@ turns = 0
 -- a number row: a number, each offence, what is none, a span that ends past the text, and beyond the rows
 by_row :
     map (reckoned_at text (n1 ++ tiny ++ inf ++ huge ++ bad ++ 36 ∷ 2 ∷ [])) (0 ∷ 1 ∷ 2 ∷ 3 ∷ 4 ∷ 5 ∷ 6 ∷ [])
-    ≡ Sides (pos 10000000) (pos 10000000) ∷ Sides (pos 0) (pos 1) ∷ Named ∷ Beyond ∷ NoNumber ∷ NoNumber ∷ NoNumber ∷ []
+    ≡ both_sides (pos 10000000) (pos 10000000) ∷ both_sides (pos 0) (pos 1) ∷ Err Named ∷ Err Beyond ∷ Err NoNumber ∷ Err NoNumber ∷ Err NoNumber ∷ []
 unfolding all turns
 by_row = refl
 
@@ -241,8 +247,8 @@ good = refl
 
 -- one number more, by what it comes to: an offence counts where none did before, and what is no number spoils all
 by_number :
-    (seen_next (n1 ++ inf) 1 (Sides (pos 0) (pos 1)) (seen true (box_answer 31 5)) ≡ seen true (box_answer 31 5)) × (seen_next (n1 ++ inf) 1 Named unseen ≡ seen true (box_answer 30 23)) × (seen_next (n1 ++ inf) 1 Beyond unseen ≡ seen true (box_answer 31 23))
-    × (seen_next (n1 ++ inf) 1 Named (seen false (box_answer 31 5)) ≡ seen false (box_answer 31 5)) × (seen_next (n1 ++ inf) 1 NoNumber (seen true (box_answer 31 5)) ≡ seen false (box_answer 31 5))
+    (seen_next (n1 ++ inf) 1 (both_sides (pos 0) (pos 1)) (seen true (box_answer 31 5)) ≡ seen true (box_answer 31 5)) × (seen_next (n1 ++ inf) 1 (Err Named) unseen ≡ seen true (box_answer 30 23)) × (seen_next (n1 ++ inf) 1 (Err Beyond) unseen ≡ seen true (box_answer 31 23))
+    × (seen_next (n1 ++ inf) 1 (Err Named) (seen false (box_answer 31 5)) ≡ seen false (box_answer 31 5)) × (seen_next (n1 ++ inf) 1 (Err NoNumber) (seen true (box_answer 31 5)) ≡ seen false (box_answer 31 5))
     × (found_on (n1 ++ inf) 0 31 (seen false fine) ≡ seen false (box_answer 31 0)) × (with_others false (seen true (box_answer 30 7)) ≡ seen false (box_answer 30 7)) × (with_others true (seen false fine) ≡ seen false fine)
 unfolding all turns
 by_number = (refl, refl, refl, refl, refl, refl, refl, refl)
@@ -262,15 +268,14 @@ unfolding all turns
 by_coordinate = (refl, refl, refl, refl, refl, refl, refl, refl, refl)
 
 -- ---- the box around coordinates
--- lows and highs by axis; one axis is widened, and the other stays
+-- one axis is widened, and the other stays
 axes :
-    (bounds_in (pos 1 ∷ pos 3 ∷ []) (pos 2 ∷ pos 4 ∷ []) ≡ box (pos 1) (pos 2) (pos 3) (pos 4))
-    × (widened_axis 0 (neg 7) (pos 7) (box (pos 1) (pos 2) (pos 3) (pos 4)) ≡ box (neg 7) (pos 7) (pos 3) (pos 4)) × (widened_axis 1 (neg 7) (pos 7) (box (pos 1) (pos 2) (pos 3) (pos 4)) ≡ box (pos 1) (pos 2) (neg 7) (pos 7))
+    (widened_axis 0 (neg 7) (pos 7) (box (pos 1) (pos 2) (pos 3) (pos 4)) ≡ box (neg 7) (pos 7) (pos 3) (pos 4)) × (widened_axis 1 (neg 7) (pos 7) (box (pos 1) (pos 2) (pos 3) (pos 4)) ≡ box (pos 1) (pos 2) (neg 7) (pos 7))
     × (widened_axis 0 (pos 2) (pos 1) (box (pos 1) (pos 2) (pos 3) (pos 4)) ≡ box (pos 1) (pos 2) (pos 3) (pos 4))
-    × (axis_next 1 (Sides (pos 0) (pos 9)) (box (pos 1) (pos 2) (pos 3) (pos 4)) ≡ box (pos 1) (pos 2) (pos 0) (pos 9)) × (axis_next 0 Named (box (pos 1) (pos 2) (pos 3) (pos 4)) ≡ box (pos 1) (pos 2) (pos 3) (pos 4))
-    × (axis_next 0 Beyond (box (pos 1) (pos 2) (pos 3) (pos 4)) ≡ box (pos 1) (pos 2) (pos 3) (pos 4)) × (axis_next 0 NoNumber (box (pos 1) (pos 2) (pos 3) (pos 4)) ≡ box (pos 1) (pos 2) (pos 3) (pos 4))
+    × (axis_next 1 (both_sides (pos 0) (pos 9)) (box (pos 1) (pos 2) (pos 3) (pos 4)) ≡ box (pos 1) (pos 2) (pos 0) (pos 9)) × (axis_next 0 (Err Named) (box (pos 1) (pos 2) (pos 3) (pos 4)) ≡ box (pos 1) (pos 2) (pos 3) (pos 4))
+    × (axis_next 0 (Err Beyond) (box (pos 1) (pos 2) (pos 3) (pos 4)) ≡ box (pos 1) (pos 2) (pos 3) (pos 4)) × (axis_next 0 (Err NoNumber) (box (pos 1) (pos 2) (pos 3) (pos 4)) ≡ box (pos 1) (pos 2) (pos 3) (pos 4))
 unfolding all
-axes = (refl, refl, refl, refl, refl, refl, refl, refl)
+axes = (refl, refl, refl, refl, refl, refl, refl)
 
 -- X alone and then Y too, of an XYM coordinate; of two such coordinates; of a node
 corners :

@@ -10,7 +10,8 @@ use Rattle.decimal.specs.Decimal.{denominator, written, SameNumber}
 use Rattle.decimal.specs.Units.{exact_units}
 use Rattle.decimal.specs.Reckon.{reckoned}
 use Rattle.decimal.specs.Spellings.{is_sides, Written}
-use Rattle.bounds.specs.Bounds.{Bounds, BoxRow, box_row, first_at, bounds_at}
+use Rattle.bounds.specs.declared.Bounds.{Bounds}
+use Rattle.bounds.specs.Bounds.{BoxRow, box_row, first_at, bounds_at}
 use Rattle.node_boxes.specs.Boxes.{x_text, y_text, line_coords, point_coords, polygon_coords, no_coords, coords}
 
 -- ---- one number, and one coordinate

@@ -1,5 +1,5 @@
 -- What the code makes of the things that a walk meets, one after the other: `proofs` shows that it comes to the boxes of the tree.
-use Rattle.std.specs.Prelude.{Bool, true, false, cond, ◌&&◌, ◌≡◌, List, [], ◌∷◌, ℕ, zero, suc, ◌+◌, ◌-◌, leb, ℤ, pos, length, get_or}
+use Rattle.std.specs.Prelude.{Bool, true, false, cond, ◌&&◌, ◌≡◌, List, [], ◌∷◌, ℕ, zero, suc, ◌+◌, ◌-◌, leb, ℤ, length}
 use Rattle.std.proofs.Math.Option.{Option, none, some}
 use Rattle.kinds.specs.Kinds.{kind_line_string, width}
 use Rattle.refusals.specs.Refusals.{ill_formed_store, no_finite_number, number_too_large}
@@ -9,18 +9,20 @@ use Rattle.nodes.specs.declared.Met.{Met}
 use Rattle.nodes.specs.declared.Met.TheVariants.{Node, End, Done, Ill}
 use Rattle.nodes.specs.Nodes.{is_leaf}
 use Rattle.shape.specs.Numbers.{text_at, is_number_at}
-use Rattle.rounding.specs.declared.Reckoned.{Reckoned}
-use Rattle.rounding.specs.declared.Reckoned.TheVariants.{Sides, Named, Beyond, NoNumber}
+use Rattle.std.specs.Prelude.{Ok, Err}
+use Rattle.rounding.specs.declared.NoSides.TheVariants.{Named, Beyond, NoNumber}
+use Rattle.rounding.specs.Rounding.{Reckoned}
 use Rattle.decimal.specs.Reckon.{reckoned}
 use Rattle.bounds.specs.declared.BoxAnswer.{BoxAnswer}
-use Rattle.bounds.specs.Bounds.{Bounds, lower, higher, box, nothing, opened, settled, closed, box_answer}
+use Rattle.bounds.specs.declared.Bounds.{Bounds}
+use Rattle.bounds.specs.Bounds.{lower, higher, box, nothing, opened, settled, closed, box_answer}
 use Rattle.node_boxes.specs.declared.Seen.{Seen}
 use Rattle.node_boxes.specs.Boxes.{fine, or_first}
 
 -- ---- numbers
 -- what the number row i comes to
 unfoldable pub reckoned_at : List ℕ → List ℕ → ℕ → Reckoned
-reckoned_at text numbers i = cond (leb (span_start_at numbers i + span_length_at numbers i) (length text)) (reckoned (text_at text numbers i)) NoNumber
+reckoned_at text numbers i = cond (leb (span_start_at numbers i + span_length_at numbers i) (length text)) (reckoned (text_at text numbers i)) (Err NoNumber)
 
 -- n numbers from i on are numbers in the text
 unfoldable pub are_good : List ℕ → List ℕ → ℕ → ℕ → Bool
@@ -43,10 +45,10 @@ found_on numbers i number s = seen s.good (or_first (offence_in s) (box_answer n
 
 -- one X or Y more: "30 for inf or nan, 31 for an exponent beyond 9,999 either way or a scaled size over 10^17"
 abbrev pub seen_next : List ℕ → ℕ → Reckoned → Seen → Seen
-seen_next numbers i (Sides low high) s = s
-seen_next numbers i Named s = found_on numbers i no_finite_number s
-seen_next numbers i Beyond s = found_on numbers i number_too_large s
-seen_next numbers i NoNumber s = seen false (offence_in s)
+seen_next numbers i (Ok x) s = s
+seen_next numbers i (Err Named) s = found_on numbers i no_finite_number s
+seen_next numbers i (Err Beyond) s = found_on numbers i number_too_large s
+seen_next numbers i (Err NoNumber) s = seen false (offence_in s)
 
 -- the first k of X and Y, of the coordinate at `at`
 unfoldable pub seen_up_to : List ℕ → List ℕ → ℕ → ℕ → Seen → Seen
@@ -64,13 +66,7 @@ unfoldable pub seen_on : List ℕ → List ℕ → ℕ → ℕ → ℕ → Seen 
 seen_on text numbers w at zero s = s
 seen_on text numbers w at (suc n) s = seen_on text numbers w (at + w) n (seen_one text numbers w at s)
 
--- ---- the box around coordinates, whose lows and highs stand by axis: X, then Y
-abbrev pub HaveAxes : List ℤ → List ℤ → Type 0
-HaveAxes lows highs = (length lows ≡ 2) × (length highs ≡ 2)
-
-abbrev pub bounds_in : List ℤ → List ℤ → Bounds
-bounds_in lows highs = box (get_or lows 0 (pos 0)) (get_or highs 0 (pos 0)) (get_or lows 1 (pos 0)) (get_or highs 1 (pos 0))
-
+-- ---- the box around coordinates
 -- on one axis it is widened by a low and a high side
 abbrev pub widened_axis : ℕ → ℤ → ℤ → Bounds → Bounds
 widened_axis zero low high b = box (lower b.left low) (higher b.right high) b.bottom b.top
@@ -78,10 +74,8 @@ widened_axis (suc k) low high b = box b.left b.right (lower b.bottom low) (highe
 
 -- a number without sides widens nothing
 abbrev pub axis_next : ℕ → Reckoned → Bounds → Bounds
-axis_next axis (Sides low high) b = widened_axis axis low high b
-axis_next axis Named b = b
-axis_next axis Beyond b = b
-axis_next axis NoNumber b = b
+axis_next axis (Ok s) b = widened_axis axis s.low s.high b
+axis_next axis (Err e) b = b
 
 -- by the first k of X and Y, of the coordinate at `at`; and by n coordinates
 unfoldable pub sided_up_to : List ℕ → List ℕ → ℕ → ℕ → Bounds → Bounds

@@ -10,13 +10,13 @@ ghost use Rattle.shape.specs.Store.{are_whole};
 ghost use Rattle.nodes.specs.Nodes.{is_leaf};
 ghost use Rattle.bounds.specs.Bounds.{nothing, box_room, settled, closed};
 ghost use Rattle.node_boxes.specs.Boxes.{or_first, boxes_of, FillsTable};
-ghost use Rattle.node_boxes.specs.Turns.{reckoned_at, are_good, seen, offence_in, unseen, found_on, seen_up_to, seen_on, HaveAxes, bounds_in, widened_axis, sided_up_to, around_on, own, entered, verdict, FilledBy};
+ghost use Rattle.node_boxes.specs.Turns.{reckoned_at, are_good, seen, offence_in, unseen, found_on, seen_next, seen_up_to, seen_on, widened_axis, sided_up_to, around_on, own, entered, verdict, FilledBy};
 
-use bounds::{BOX_WIDTH, BoxAnswer, EDGE, NO_EDGE};
+use bounds::{BOX_WIDTH, Bounds, BoxAnswer, NOTHING};
 use kinds::KIND_LINESTRING;
 use nodes::{Met, Visit};
 use refusals::{ILL_FORMED_STORE, NO_FINITE_NUMBER, NO_ROOM, NUMBER_TOO_LARGE};
-use rounding::Reckoned;
+use rounding::{NoSides, Sides};
 use store::{NODE_WIDTH, NUMBER_WIDTH};
 use walk::{ABOVE, FRAMES};
 
@@ -32,13 +32,13 @@ struct Seen {
 }
 
 // What a number row comes to.
-fn reckon_at(text: &[u8], numbers: &[u32], i: usize) -> Reckoned
+fn reckon_at(text: &[u8], numbers: &[u32], i: usize) -> Result<Sides, NoSides>
     ensures { result ≡ reckoned_at text.now numbers.now i }
 {
     let start = store::start_at(numbers, i) as usize;
     let end = start + (store::length_at(numbers, i) as usize);
     if text.len() < end {
-        return Reckoned::NoNumber;
+        return Err(NoSides::NoNumber);
     }
     decimal::reckon(&text[start..end])
 }
@@ -48,14 +48,7 @@ fn are_good(text: &[u8], numbers: &[u32], first: usize, count: usize) -> bool
     requires { first + count ≤ number_room numbers.now }
     ensures { result ≡ are_good text.now numbers.now first count }
 {
-    let mut i = 0;
-    while i < count {
-        if !shape::is_number_at(text, numbers, first + i) {
-            return false;
-        }
-        i += 1;
-    }
-    true
+    (first..first + count).all(|i| shape::is_number_at(text, numbers, i))
 }
 
 // The offence that was found, or else that of a node's coordinates.
@@ -85,74 +78,71 @@ fn nothing_seen() -> Seen
 fn no_number(s: Seen) -> Seen
     ensures { result ≡ seen false (offence_in s) }
 {
-    Seen {
-        good: false,
-        number: s.number,
-        place: s.place,
-    }
+    Seen { good: false, ..s }
 }
 
 // An X or Y has no place in a box: it counts, if none before it did.
 fn offended(s: Seen, numbers: &[u32], i: usize, number: u32) -> Seen
     ensures { result ≡ found_on numbers.now i number s }
 {
-    let mut found = number;
-    let mut place = store::start_at(numbers, i) as usize;
     if s.number != 0 {
-        found = s.number;
-        place = s.place;
+        return s;
     }
     Seen {
         good: s.good,
-        number: found,
-        place,
+        number,
+        place: store::start_at(numbers, i) as usize,
     }
 }
 
-// The sides of the axis are widened, so that they hold two others.
-fn widen_axis(lows: &mut [i64; AXES], highs: &mut [i64; AXES], axis: usize, low: i64, high: i64)
-    requires { (axis < 2) × HaveAxes lows.old highs.old }
-    ensures axes { HaveAxes lows.new highs.new }
-    ensures around { bounds_in lows.new highs.new ≡ widened_axis axis low high (bounds_in lows.old highs.old) }
+// An X or Y has no sides.
+fn without_sides(s: Seen, numbers: &[u32], i: usize, why: NoSides) -> Seen
+    ensures { result ≡ seen_next numbers.now i (Err why) s }
 {
-    lows[axis] = bounds::lower_of(lows[axis], low);
-    highs[axis] = bounds::higher_of(highs[axis], high);
+    match why {
+        NoSides::Named => offended(s, numbers, i, NO_FINITE_NUMBER),
+        NoSides::Beyond => offended(s, numbers, i, NUMBER_TOO_LARGE),
+        NoSides::NoNumber => no_number(s),
+    }
 }
 
-// X and Y of the coordinate at `at`: each widens the sides of its axis, or has none.
-fn look_at_both(
-    text: &[u8],
-    numbers: &[u32],
-    lows: &mut [i64; AXES],
-    highs: &mut [i64; AXES],
-    at: usize,
-    before: Seen,
-) -> Seen
-    requires { (at + 2 ≤ number_room numbers.now) × HaveAxes lows.old highs.old }
-    ensures axes { HaveAxes lows.new highs.new }
+// The box is widened on an axis, so that it holds two other sides there.
+fn widen_axis(b: Bounds, axis: usize, s: Sides) -> Bounds
+    ensures { result ≡ widened_axis axis s.low s.high b }
+{
+    if axis == 0 {
+        Bounds {
+            left: b.left.min(s.low),
+            right: b.right.max(s.high),
+            ..b
+        }
+    } else {
+        Bounds {
+            bottom: b.bottom.min(s.low),
+            top: b.top.max(s.high),
+            ..b
+        }
+    }
+}
+
+// X and Y of the coordinate at `at`: each widens the box on its axis, or has no sides.
+fn look_at_both(text: &[u8], numbers: &[u32], around: &mut Bounds, at: usize, before: Seen) -> Seen
+    requires { at + 2 ≤ number_room numbers.now }
     ensures seen { result ≡ seen_up_to text.now numbers.now at 2 before }
-    ensures around { bounds_in lows.new highs.new ≡ sided_up_to text.now numbers.now at 2 (bounds_in lows.old highs.old) }
+    ensures around { around.new ≡ sided_up_to text.now numbers.now at 2 around.old }
 {
     let mut s = before;
-    let mut axis = 0;
-    while axis < AXES {
+    for axis in 0..AXES {
         let i = at + axis;
         let x = reckon_at(text, numbers, i);
         match x {
-            Reckoned::Sides(low, high) => {
-                widen_axis(lows, highs, axis, low, high);
+            Ok(sides) => {
+                *around = widen_axis(*around, axis, sides);
             },
-            Reckoned::Named => {
-                s = offended(s, numbers, i, NO_FINITE_NUMBER);
-            },
-            Reckoned::Beyond => {
-                s = offended(s, numbers, i, NUMBER_TOO_LARGE);
-            },
-            Reckoned::NoNumber => {
-                s = no_number(s);
+            Err(why) => {
+                s = without_sides(s, numbers, i, why);
             },
         }
-        axis += 1;
     }
     s
 }
@@ -164,22 +154,17 @@ fn look_at_all(text: &[u8], numbers: &[u32], table: &mut [i64], v: Visit) -> See
     ensures table { table.new ≡ settled table.old v.row v.parent.row (around_on text.now numbers.now (width v.dimension) v.number v.parts nothing) }
 {
     let width = kinds::width_of(v.dimension);
-    let row = v.row;
-    let parent = v.parent.row;
-    let mut lows = [EDGE; AXES];
-    let mut highs = [NO_EDGE; AXES];
+    let mut around = NOTHING;
     let mut s = nothing_seen();
     let mut at = v.number;
-    let mut left = v.parts;
-    while 0 < left {
-        s = look_at_both(text, numbers, &mut lows, &mut highs, at, s);
+    for _ in 0..v.parts {
+        s = look_at_both(text, numbers, &mut around, at, s);
         if AXES < width {
             s.good = s.good & are_good(text, numbers, at + AXES, width - AXES);
         }
         at += width;
-        left -= 1;
     }
-    bounds::settle(table, row, parent, lows[0], highs[0], lows[1], highs[1]);
+    bounds::settle(table, v.row, v.parent.row, around);
     s
 }
 
@@ -289,6 +274,6 @@ pub fn boxes(text: &[u8], nodes: &[u32], numbers: &[u32], table: &mut [i64]) -> 
     if found.number != 0 {
         return bounds::refuse(table, found.number, found.place);
     }
-    bounds::clear(table, rows * BOX_WIDTH);
+    store::clear(table, rows * BOX_WIDTH);
     found
 }

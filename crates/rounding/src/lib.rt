@@ -2,16 +2,21 @@
 #![tactic(auto)]
 
 ghost use Rattle.std.specs.Prelude.{◌≡◌, ◌+◌, ◌≤◌, pos, neg_ℤ};
-ghost use Rattle.rounding.specs.declared.Reckoned.TheVariants.{Sides};
-ghost use Rattle.rounding.specs.Rounding.{size_limit, outward, low_of, high_of, is_over, rounded};
+ghost use Rattle.rounding.specs.Rounding.{size_limit, outward, sides, low_of, high_of, is_over, rounded};
 
 // A size up to so many units is taken.
 pub const SIZE_LIMIT: u64 = 100000000000000000;
 
-// What a number's text comes to: the whole units below and above it; a word for what no digits say; a decimal beyond the limits; or no number's text.
-#[derive(Clone, Copy)]
-pub enum Reckoned {
-    Sides(i64, i64),
+// The whole units next to a number: the highest that isn't above it, and the lowest that isn't below it.
+#[derive(Clone, Copy, PartialEq, Eq)]
+pub struct Sides {
+    pub low: i64,
+    pub high: i64,
+}
+
+// Why a number's text has no sides: it is a word, which no digits say; it is a decimal beyond the limits; or it is no number's text.
+#[derive(Clone, Copy, PartialEq, Eq)]
+pub enum NoSides {
     Named,
     Beyond,
     NoNumber,
@@ -39,19 +44,19 @@ fn negative(n: u64) -> i64
 }
 
 // The low side is rounded down and the high one up.
-fn sides(minus: bool, whole: u64, left: bool) -> Reckoned
+fn sides_of(minus: bool, whole: u64, left: bool) -> Sides
     requires { whole ≤ size_limit }
-    ensures { result ≡ Sides (low_of minus whole left) (high_of minus whole left) }
+    ensures { result ≡ sides (low_of minus whole left) (high_of minus whole left) }
 {
     let far = outward_of(whole, left);
     if minus {
         let low = negative(far);
         let high = negative(whole);
-        return Reckoned::Sides(low, high);
+        return Sides { low, high };
     }
     let low = positive(whole);
     let high = positive(far);
-    Reckoned::Sides(low, high)
+    Sides { low, high }
 }
 
 fn is_over(whole: u64, left: bool) -> bool
@@ -65,11 +70,11 @@ fn is_over(whole: u64, left: bool) -> bool
 }
 
 // The sides of a size of so many whole units, and whether something is left over; or it is beyond the limit.
-pub fn round(minus: bool, whole: u64, left: bool) -> Reckoned
+pub fn round(minus: bool, whole: u64, left: bool) -> Result<Sides, NoSides>
     ensures { result ≡ rounded minus whole left }
 {
     if is_over(whole, left) {
-        return Reckoned::Beyond;
+        return Err(NoSides::Beyond);
     }
-    sides(minus, whole, left)
+    Ok(sides_of(minus, whole, left))
 }

@@ -1,30 +1,22 @@
 -- `bounds::put_five` meets its contract: with room its five stores are those of the row, and without it nothing changes.
 use Prim.Native.Nat.{◌*◌}
-use native.Mathlib.Omega.{arith}
-use lib.ListN.{length-set}
-use Rattle.rounding.proofs.Signed.{back}
-use Rattle.bounds.proofs.Boxes.{five_stores}
+use mir.Syntax.{w64}
+use mir.Val.{SFits}
+use borrow.Author.Rules.{rules}
 use borrow.Author.Tests.{lt-ltb, le-ltb}
 use Rattle.bounds.specs.Bounds.{put_five}
+use Rattle.bounds.proofs.Boxes.{five_stores}
 use Rattle.bounds.proofs.put_five.Goals as goal
-
-pub bounds-table-at-then-row-table : goal.bounds-table-at-then-row-table
-bounds-table-at-then-row-table c = simp length-set (omega arith)
-
-pub bounds-table-at-then-row-table-2 : goal.bounds-table-at-then-row-table-2
-bounds-table-at-then-row-table-2 c = simp length-set (omega arith)
-
-pub bounds-table-at-then-row-table-3 : goal.bounds-table-at-then-row-table-3
-bounds-table-at-then-row-table-3 c = simp length-set (omega arith)
-
-pub bounds-table-at-then-row-table-4 : goal.bounds-table-at-then-row-table-4
-bounds-table-at-then-row-table-4 c = simp length-set (omega arith)
 
 pub returns-then-row-table : goal.returns-then-row-table
 unfolding put_five
 returns-then-row-table c =
-    rw (lt-ltb _ _ c.if-row-table.true)
-    (five_stores c.args.table.now (c.args.row * 5) (back c.args.first c.ranges.first) (back c.args.left c.ranges.left) (back c.args.right c.ranges.right) (back c.args.bottom c.ranges.bottom) (back c.args.top c.ranges.top))
+    let b = c.args.b in
+    let left : SFits w64 b.left = search rules in
+    let right : SFits w64 b.right = search rules in
+    let bottom : SFits w64 b.bottom = search rules in
+    let top : SFits w64 b.top = search rules in
+    rw (lt-ltb _ _ c.if-row-table.true) (five_stores c.args.table.now (c.args.row * 5) c.args.first b c.ranges.first left right bottom top)
 
 pub returns-else-row-table : goal.returns-else-row-table
 unfolding put_five

@@ -1,17 +1,17 @@
--- `decimal::all_digits` meets its contract: in both loops, those from i on are digits if all are.
-use mathlib.Core.Path.{sym, ◌∙◌}
-use native.Mathlib.Omega.{arith}
-use Rattle.decimal.proofs.Loops.{digits_none, digits_end, digits_stop, digits_on, four_stop, four_on}
+-- `decimal::all_digits` meets its contract: those from i on are digits if all are, and the chain tells them.
+use mathlib.Core.Path.{◌≡◌, sym, ap, ◌∙◌}
+use mathlib.Core.Bool.{true}
+use Prim.Native.Nat.{ℕ, ◌<◌, ◌-◌}
+use borrow.Author.Rules.{rules}
+use lib.ListN.{length, get_or, drop, take}
+use Rattle.std.specs.Prelude.{◌↔◌}
+use Rattle.lists.specs.Lists.{every}
+use Rattle.scan.specs.Bytes.{is_digit}
+use Rattle.decimal.proofs.Loops.{told_every, sliced_all, digits_none, four_stop, four_on}
 use Rattle.decimal.proofs.all_digits.Goals as goal
 
 pub loop-i-init : goal.loop-i-init
 loop-i-init c = digits_none _ _ c.requires
-
-pub overflow_sub-len : goal.overflow_sub-len
-overflow_sub-len c = c.loop-i.invariant.within
-
-pub four_digits-requires : goal.four_digits-requires
-four_digits-requires c = omega (arith, c.loop-i-test.true, c.loop-i.invariant.within)
 
 pub returns-then-not-four_digits : goal.returns-then-not-four_digits
 returns-then-not-four_digits c = four_stop c.loop-i.invariant c.loop-i-test.true (sym c.four_digits.ensures ∙ c.if-not-four_digits.true)
@@ -19,14 +19,8 @@ returns-then-not-four_digits c = four_stop c.loop-i.invariant c.loop-i-test.true
 pub loop-i-preserved : goal.loop-i-preserved
 loop-i-preserved c = four_on c.loop-i.invariant c.loop-i-test.true (sym c.four_digits.ensures ∙ c.if-not-four_digits.false)
 
-pub loop-i-2-init : goal.loop-i-2-init
-loop-i-2-init c = c.loop-i.invariant
-
-pub returns-then-not-is_digit : goal.returns-then-not-is_digit
-returns-then-not-is_digit c = digits_stop c.loop-i-2.invariant c.loop-i-2-test.true (sym c.is_digit.ensures ∙ c.if-not-is_digit.true)
-
-pub loop-i-2-preserved : goal.loop-i-2-preserved
-loop-i-2-preserved c = digits_on c.loop-i-2.invariant c.loop-i-2-test.true (sym c.is_digit.ensures ∙ c.if-not-is_digit.false)
-
 pub returns : goal.returns
-returns c = digits_end c.loop-i-2.invariant c.loop-i-2-test.false
+returns c =
+    let l = take (length c.args.w.now - c.loop-i.i) (drop c.loop-i.i c.args.w.now) in
+    let h : (c.all.result ≡ true) ↔ ((k : ℕ) → k < length l → is_digit (get_or l k 0) ≡ true) = search rules in
+    told_every is_digit l c.all.result h ∙ ap (every is_digit) (sliced_all c.args.w.now c.loop-i.i) ∙ c.loop-i.invariant.same

@@ -1,11 +1,7 @@
--- What `decimal::drop_digits` keeps true in its loops, and what falls.
-use Prim.Native.Nat.{◌-◌}
-use lib.ListN.{length}
+-- What `decimal::drop_digits` keeps true in its loop.
+use Prim.Native.Nat.{◌+◌}
 use Rattle.decimal.proofs.Loops.{DropsOn}
 use Rattle.decimal.proofs.drop_digits.Given as goal
 
-abbrev pub invariant-loop-i : goal.invariant-loop-i
-invariant-loop-i l = DropsOn l.w l.k l.rest l.i
-
-abbrev pub decreases-loop-i : goal.decreases-loop-i
-decreases-loop-i l = length l.w - l.i
+abbrev pub invariant-loop-b : goal.invariant-loop-b
+invariant-loop-b l = DropsOn l.w l.fn.before l.k (l.fn.before.end + l.b-index)

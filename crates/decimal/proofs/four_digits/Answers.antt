@@ -1,12 +1,16 @@
--- `decimal::four_digits` meets its contract. The loop's invariant: `all` is whether the first i are digits.
-use Rattle.number.proofs.Plain.{none_told, one_told, four_told}
+-- `decimal::four_digits` meets its contract: `all` is whether the first bytes are digits.
+use mathlib.Core.Path.{ap, ◌∙◌}
+use lib.Seq.{take_all}
+use Rattle.lists.specs.Lists.{every}
+use Rattle.scan.specs.Bytes.{is_digit}
+use Rattle.decimal.proofs.Loops.{every_first, every_on}
 use Rattle.decimal.proofs.four_digits.Goals as goal
 
-pub loop-i-init : goal.loop-i-init
-loop-i-init c = none_told _ _
+pub loop-b-init : goal.loop-b-init
+loop-b-init c = every_first c.args.four.now
 
-pub loop-i-preserved : goal.loop-i-preserved
-loop-i-preserved c = one_told c.loop-i.invariant c.requires c.loop-i-test.true c.is_digit-all.ensures
+pub loop-b-preserved : goal.loop-b-preserved
+loop-b-preserved c = every_on c.args.four.now c.loop-b.b-index c.loop-b-test.true c.loop-b.invariant c.is_digit-all.ensures
 
 pub returns : goal.returns
-returns c = four_told c.loop-i.invariant c.loop-i-test.false
+returns c = c.loop-b.invariant ∙ ap (every is_digit) (take_all c.loop-b.b-index c.args.four.now c.loop-b-test.false)

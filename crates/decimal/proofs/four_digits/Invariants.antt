@@ -1,10 +1,9 @@
--- What `decimal::four_digits` keeps true in its loops, and what falls.
-use Prim.Native.Nat.{◌-◌}
-use Rattle.number.proofs.Plain.{ToldSoFar}
+-- What `decimal::four_digits` keeps true in its loop.
+use mathlib.Core.Path.{◌≡◌}
+use lib.ListN.{take}
+use Rattle.lists.specs.Lists.{every}
+use Rattle.scan.specs.Bytes.{is_digit}
 use Rattle.decimal.proofs.four_digits.Given as goal
 
-abbrev pub invariant-loop-i : goal.invariant-loop-i
-invariant-loop-i l = ToldSoFar l.w l.at l.i l.all
-
-abbrev pub decreases-loop-i : goal.decreases-loop-i
-decreases-loop-i l = 4 - l.i
+abbrev pub invariant-loop-b : goal.invariant-loop-b
+invariant-loop-b l = l.all ≡ every is_digit (take l.b-index l.four)

@@ -1,12 +1,11 @@
--- What `decimal::lowered` keeps true in its loops, and what falls.
+-- What `decimal::lowered` keeps true in its loop.
 use mathlib.Core.Path.{◌≡◌}
 use mathlib.Core.Bool.{not, ◌||◌}
-use Prim.Native.Nat.{◌/◌, ◌%◌, ◌^◌}
+use Prim.Native.Nat.{◌-◌, ◌/◌, ◌%◌, ◌^◌}
 use lib.Dec.{eqb}
 use Rattle.decimal.proofs.lowered.Given as goal
 
-abbrev pub invariant-loop-n : goal.invariant-loop-n
-invariant-loop-n l = (l.x / 10 ^ l.n ≡ l.value / 10 ^ l.tens) × ((l.rest || not (eqb (l.x % 10 ^ l.n) 0)) ≡ (l.left || not (eqb (l.value % 10 ^ l.tens) 0)))
-
-abbrev pub decreases-loop-n : goal.decreases-loop-n
-decreases-loop-n l = l.n
+abbrev pub invariant-loop : goal.invariant-loop
+invariant-loop l =
+    (l.whole / 10 ^ (l.tens - l.counter) ≡ l.value / 10 ^ l.tens)
+    × ((l.rest || not (eqb (l.whole % 10 ^ (l.tens - l.counter)) 0)) ≡ (l.left || not (eqb (l.value % 10 ^ l.tens) 0)))

@@ -1,11 +1,8 @@
--- What `decimal::raised` keeps true in its loops, and what falls.
+-- What `decimal::raised` keeps true in its loop.
 use mathlib.Core.Path.{◌≡◌}
-use Prim.Native.Nat.{◌*◌, ◌^◌, ◌<◌}
+use Prim.Native.Nat.{◌-◌, ◌*◌, ◌^◌, ◌<◌}
 use Rattle.decimal.specs.Code.{held}
 use Rattle.decimal.proofs.raised.Given as goal
 
-abbrev pub invariant-loop-n : goal.invariant-loop-n
-invariant-loop-n l = (l.x < 10 * held) × (l.x * 10 ^ l.n ≡ l.value * 10 ^ l.tens)
-
-abbrev pub decreases-loop-n : goal.decreases-loop-n
-decreases-loop-n l = l.n
+abbrev pub invariant-loop : goal.invariant-loop
+invariant-loop l = (l.x < 10 * held) × (l.x * 10 ^ (l.tens - l.counter) ≡ l.value * 10 ^ l.tens)

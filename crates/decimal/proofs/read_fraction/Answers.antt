@@ -3,21 +3,8 @@ use native.Mathlib.Omega.{arith}
 use Rattle.decimal.proofs.Texts.{short_other, short_place, short_small, short_is}
 use Rattle.decimal.proofs.read_fraction.Goals as goal
 
-pub read_long_fraction-requires : goal.read_long_fraction-requires
-read_long_fraction-requires c = omega (arith, c.if-len-first-ge-UNIT_PLACES.true)
-
-pub returns-then-len-first-ge-UNIT_PLACES : goal.returns-then-len-first-ge-UNIT_PLACES
-returns-then-len-first-ge-UNIT_PLACES c = c.read_long_fraction.ensures
-
-pub read_few-few-requires : goal.read_few-few-requires
-read_few-few-requires c = (c.requires, omega (arith, c.if-len-first-ge-UNIT_PLACES.false), omega arith)
-
 pub returns-then-few-len : goal.returns-then-few-len
 returns-then-few-len c = short_other _ _ c.requires _ _ c.read_few-few.ensures.value c.read_few-few.ensures.end c.if-few-len.true
-
-pub overflow_sub-few : goal.overflow_sub-few
-overflow_sub-few c = let few = c.read_few-few in
-    (short_place c.args.w.now c.args.first c.requires few.result.value few.result.end few.ensures.value few.ensures.end).0
 
 pub to_unit-requires : goal.to_unit-requires
 to_unit-requires c = let few = c.read_few-few in

@@ -1,19 +1,23 @@
 -- `decimal::read_long_fraction` meets its contract: by whether seven bytes and those behind them are digits.
-use mathlib.Core.Path.{sym, ◌∙◌}
-use borrow.Author.Tests.{not-true, not-false}
-use Rattle.decimal.proofs.Texts.{long_other, raw_high, long_tail, long_is}
+use mathlib.Core.Path.{◌≡◌, ap, ◌∙◌}
+use Prim.Native.Nat.{ℕ, ◌+◌, ◌-◌}
+use mathlib.Core.List.{List}
+use native.Mathlib.Omega.{arith}
+use lib.ListN.{take, drop}
+use Rattle.decimal.specs.Code.{number_of}
+use Rattle.decimal.proofs.Texts.{long_other, long_tail, long_is}
 use Rattle.decimal.proofs.read_long_fraction.Goals as goal
 
-pub returns-then-not-seven : goal.returns-then-not-seven
-returns-then-not-seven c = long_other _ _ c.requires _ c.read_seven-seven.ensures.all (not-true _ c.if-not-seven.true)
+seven : (w : List ℕ) (first : ℕ) → take (first + 7 - first) (drop first w) ≡ take 7 (drop first w)
+seven w first =
+    let n : first + 7 - first ≡ 7 = omega arith in
+    ap (λ (k : ℕ). take k (drop first w)) n
 
-pub overflow_sub-result : goal.overflow_sub-result
-overflow_sub-result c = raw_high _ _ c.requires _ (sym (not-false _ c.if-not-seven.false) ∙ c.read_seven-seven.ensures.all) c.read_seven-seven.ensures.raw
+pub returns-in_err-whole : goal.returns-in_err-whole
+returns-in_err-whole c = c.from_residual.ensures ∙ long_other _ _ c.requires (c.in_err-whole.ensures ∙ ap number_of (seven c.args.w.now c.args.first))
 
-pub returns-in-Digits : goal.returns-in-Digits
-returns-in-Digits c = let r = c.read_seven-seven.ensures in
-    long_is _ _ c.requires _ (sym (not-false _ c.if-not-seven.false) ∙ r.all) r.raw _ c.in-Digits.ensures
+pub returns-in_err-rest : goal.returns-in_err-rest
+returns-in_err-rest c = c.from_residual-in_err-rest.ensures ∙ long_tail _ _ c.requires _ (c.in_ok-whole.ensures ∙ ap number_of (seven c.args.w.now c.args.first)) c.in_err-rest.ensures
 
-pub returns-in-Other : goal.returns-in-Other
-returns-in-Other c = let r = c.read_seven-seven.ensures in
-    long_tail _ _ c.requires _ (sym (not-false _ c.if-not-seven.false) ∙ r.all) r.raw c.in-Other.ensures
+pub returns : goal.returns
+returns c = long_is _ _ c.requires _ (c.in_ok-whole.ensures ∙ ap number_of (seven c.args.w.now c.args.first)) _ c.in_ok-rest.ensures

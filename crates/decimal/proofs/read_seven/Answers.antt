@@ -1,27 +1,28 @@
--- `decimal::read_seven` meets its contract: the loop has read the first i bytes.
-use Prim.Native.Nat.{◌+◌}
+-- `decimal::read_seven` meets its contract: the loop has read the first bytes.
+use mathlib.Core.Path.{◌≡◌, subst}
+use Prim.Native.Nat.{ℕ}
 use native.Mathlib.Omega.{arith}
-use Rattle.decimal.proofs.Loops.{seven_none, seven_small, seven_on, seven_end}
+use lib.ListN.{length}
+use Rattle.decimal.proofs.Loops.{SevenSoFar, seven_none, seven_on, seven_high, seven_is, seven_other}
 use Rattle.decimal.proofs.read_seven.Goals as goal
 
-pub loop-i-init : goal.loop-i-init
-loop-i-init c = seven_none _ _
+pub loop-b-init : goal.loop-b-init
+loop-b-init c = seven_none _
 
-pub overflow_mul-raw : goal.overflow_mul-raw
-overflow_mul-raw c = omega (arith, seven_small c.loop-i.invariant)
+pub loop-b-preserved : goal.loop-b-preserved
+loop-b-preserved c = seven_on c.loop-b.invariant c.requires c.loop-b-test.true (c.type_inv.seven c.loop-b.b-index).fits c.is_digit-all.ensures
 
-pub overflow_cast-raw : goal.overflow_cast-raw
-overflow_cast-raw c = let b = c.shared_slice_known-1.given (c.args.at + c.loop-i.i) in
-    omega (arith, b)
+pub overflow_sub-result : goal.overflow_sub-result
+overflow_sub-result c =
+    let e : c.loop-b.b-index ≡ length c.args.seven.now = omega (arith, c.loop-b.auto.b-index-end, c.loop-b-test.false) in
+    seven_high (subst (λ (i : ℕ). SevenSoFar c.args.seven.now c.loop-b.all c.loop-b.raw i) e c.loop-b.invariant) c.requires c.if-all.true
 
-pub overflow_add-raw : goal.overflow_add-raw
-overflow_add-raw c = let b = c.shared_slice_known-1.given (c.args.at + c.loop-i.i) in
-    omega (arith, seven_small c.loop-i.invariant, b)
+pub returns-then-all : goal.returns-then-all
+returns-then-all c =
+    let e : c.loop-b.b-index ≡ length c.args.seven.now = omega (arith, c.loop-b.auto.b-index-end, c.loop-b-test.false) in
+    seven_is (subst (λ (i : ℕ). SevenSoFar c.args.seven.now c.loop-b.all c.loop-b.raw i) e c.loop-b.invariant) c.requires c.if-all.true
 
-pub loop-i-preserved : goal.loop-i-preserved
-loop-i-preserved c = let b = c.shared_slice_known-1.given (c.args.at + c.loop-i.i) in
-    seven_on c.loop-i.invariant c.requires c.loop-i-test.true b.fits c.is_digit-all.ensures
-
-pub returns : goal.returns
-returns c = let r = seven_end c.loop-i.invariant c.loop-i-test.false in
-    record { all = r.0; raw = r.1 }
+pub returns-else-all : goal.returns-else-all
+returns-else-all c =
+    let e : c.loop-b.b-index ≡ length c.args.seven.now = omega (arith, c.loop-b.auto.b-index-end, c.loop-b-test.false) in
+    seven_other (subst (λ (i : ℕ). SevenSoFar c.args.seven.now c.loop-b.all c.loop-b.raw i) e c.loop-b.invariant) c.requires c.if-all.false

@@ -1,10 +1,6 @@
--- What `decimal::read_seven` keeps true in its loops, and what falls.
-use Prim.Native.Nat.{◌-◌}
+-- What `decimal::read_seven` keeps true in its loop.
 use Rattle.decimal.proofs.Loops.{SevenSoFar}
 use Rattle.decimal.proofs.read_seven.Given as goal
 
-abbrev pub invariant-loop-i : goal.invariant-loop-i
-invariant-loop-i l = SevenSoFar l.w l.at l.all l.raw l.i
-
-abbrev pub decreases-loop-i : goal.decreases-loop-i
-decreases-loop-i l = 7 - l.i
+abbrev pub invariant-loop-b : goal.invariant-loop-b
+invariant-loop-b l = SevenSoFar l.seven l.all l.raw l.b-index

@@ -1,19 +1,13 @@
 -- `decimal::read_tail` meets its contract: behind zeros, the tail from i on comes to what the whole tail does.
 use mathlib.Core.Path.{sym, ◌∙◌}
-use Rattle.decimal.proofs.Loops.{tail_none, tail_end, tail_on, tail_left, tail_other}
+use Rattle.decimal.proofs.Loops.{tail_end, tail_on, tail_left, tail_other}
 use Rattle.decimal.proofs.read_tail.Goals as goal
-
-pub loop-i-init : goal.loop-i-init
-loop-i-init c = tail_none _ _ c.requires
-
-pub all_digits-requires : goal.all_digits-requires
-all_digits-requires c = c.loop-i.invariant.within
 
 pub returns-then-all_digits : goal.returns-then-all_digits
 returns-then-all_digits c = tail_left c.loop-i.invariant c.loop-i-test.true c.if-w-i-ne48.true (sym c.if-all_digits.true ∙ c.all_digits.ensures)
 
-pub returns-then-w-i-ne48 : goal.returns-then-w-i-ne48
-returns-then-w-i-ne48 c = tail_other c.loop-i.invariant c.loop-i-test.true c.if-w-i-ne48.true (sym c.if-all_digits.false ∙ c.all_digits.ensures)
+pub returns-else-all_digits : goal.returns-else-all_digits
+returns-else-all_digits c = tail_other c.loop-i.invariant c.loop-i-test.true c.if-w-i-ne48.true (sym c.if-all_digits.false ∙ c.all_digits.ensures)
 
 pub loop-i-preserved : goal.loop-i-preserved
 loop-i-preserved c = tail_on c.loop-i.invariant c.loop-i-test.true c.if-w-i-ne48.false

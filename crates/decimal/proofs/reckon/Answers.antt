@@ -3,8 +3,5 @@ use mathlib.Core.Path.{◌∙◌}
 use Rattle.decimal.proofs.Lexemes.{plain_reckoned}
 use Rattle.decimal.proofs.reckon.Goals as goal
 
-pub returns-in-Told : goal.returns-in-Told
-returns-in-Told c = c.round.ensures ∙ plain_reckoned _ _ _ _ c.in-Told.ensures
-
-pub returns-in-Other : goal.returns-in-Other
-returns-in-Other c = c.reckon_any.ensures
+pub returns-in-Some : goal.returns-in-Some
+returns-in-Some c = c.round.ensures ∙ plain_reckoned _ _ _ _ c.in-Some.ensures

@@ -1,19 +1,35 @@
--- `node_boxes::widen_axis` meets its contract: the low and the high of the axis are set, and those of the other stay.
-use mathlib.Core.Path.{ap, ap₂, ◌∙◌}
-use lib.IntN.{pos}
-use lib.ListN.{get_or, set, length-set}
-use Rattle.rounding.proofs.Signed.{back}
-use Rattle.bounds.specs.Bounds.{lower, higher}
-use Rattle.node_boxes.specs.Turns.{bounds_in}
-use Rattle.node_boxes.proofs.Numbers.{axis_set}
+-- `node_boxes::widen_axis` meets its contract: the low and the high of the axis are taken, and those of the other stay.
+use mathlib.Core.Path.{◌∙◌}
+use mir.Syntax.{w64}
+use mir.Val.{SFits}
+use borrow.Author.Rules.{rules}
+use Rattle.std.proofs.lemmas.Int.{to_z-of_z}
+use Rattle.bounds.proofs.Boxes.{same_box, lower_is, higher_is}
+use Rattle.node_boxes.proofs.Numbers.{widened_x, widened_y}
 use Rattle.node_boxes.proofs.widen_axis.Goals as goal
 
-pub returns : goal.returns
-returns c =
-    let low = back _ (record { sfits = c.lower_of.type_inv }) ∙ c.lower_of.ensures ∙ ap₂ lower (back (get_or c.args.lows.now c.args.axis (pos 0)) (record { sfits = c.lower_of-arg-1.given })) (back c.args.low c.ranges.low) in
-    let high = back _ (record { sfits = c.higher_of.type_inv }) ∙ c.higher_of.ensures ∙ ap₂ higher (back (get_or c.args.highs.now c.args.axis (pos 0)) (record { sfits = c.higher_of-arg-1.given })) (back c.args.high c.ranges.high) in
-    record {
-      axes = (length-set c.args.lows.now c.args.axis _ ∙ c.requires.1.0, length-set c.args.highs.now c.args.axis _ ∙ c.requires.1.1);
-      around = ap₂ bounds_in (ap (set c.args.lows.now c.args.axis) low) (ap (set c.args.highs.now c.args.axis) high)
-          ∙ axis_set c.args.lows.now c.args.highs.now c.args.axis c.args.low c.args.high c.requires.1.0 c.requires.1.1 c.requires.0;
-    }
+pub returns-then-axis-eq0 : goal.returns-then-axis-eq0
+returns-then-axis-eq0 c =
+    let b = c.args.b in
+    let s = c.args.s in
+    let bottom : SFits w64 b.bottom = search rules in
+    let top : SFits w64 b.top = search rules in
+    same_box
+    (lower_is b.left s.low (search rules) (search rules) (record { sfits = c.min.type_inv }) c.min.ensures.value)
+    (higher_is b.right s.high (search rules) (search rules) (record { sfits = c.max.type_inv }) c.max.ensures.value)
+    (to_z-of_z w64 b.bottom bottom)
+    (to_z-of_z w64 b.top top)
+    ∙ widened_x b s.low s.high c.args.axis c.if-axis-eq0.true
+
+pub returns-else-axis-eq0 : goal.returns-else-axis-eq0
+returns-else-axis-eq0 c =
+    let b = c.args.b in
+    let s = c.args.s in
+    let left : SFits w64 b.left = search rules in
+    let right : SFits w64 b.right = search rules in
+    same_box
+    (to_z-of_z w64 b.left left)
+    (to_z-of_z w64 b.right right)
+    (lower_is b.bottom s.low (search rules) (search rules) (record { sfits = c.min-else-axis-eq0.type_inv }) c.min-else-axis-eq0.ensures.value)
+    (higher_is b.top s.high (search rules) (search rules) (record { sfits = c.max-else-axis-eq0.type_inv }) c.max-else-axis-eq0.ensures.value)
+    ∙ widened_y b s.low s.high c.args.axis c.if-axis-eq0.false
