@@ -1,10 +1,10 @@
 -- Laws of the canonical text, a step at a time.
 -- Assumes nothing.
-use mathlib.Core.Path.{◌≡◌, refl, ap, ◌∙◌}
+use mathlib.Core.Path.{◌≡◌, refl, ap}
 use mathlib.Core.List.{List, ◌∷◌}
 use Prim.Native.Nat.{ℕ, zero, suc, ◌+◌, ◌-◌, ◌*◌, ◌≤◌, ◌<◌}
 use native.Mathlib.Omega.{arith}
-use native.Mathlib.Nat.{suc-mul, add_comm}
+use native.Mathlib.Nat.{zero-mul, suc-mul, mul-le-mul_right}
 use Rattle.scan.specs.Bytes.{space, comma}
 use Rattle.kinds.specs.Kinds.{kind_line_string, width}
 use Rattle.store.specs.Rows.{number_room}
@@ -54,27 +54,25 @@ module _ (text numbers : List ℕ) where
   unfolding led_numbers put_coordinate
   numbers_all lead first w h rest = let z : first + 0 ≡ first = omega arith in let y : w - 0 ≡ suc (w - 1) = omega arith in rw (z, y)
 
-  module _ (lead at w n i : ℕ) where
-    pub coordinates_on : i < n → (rest : List ℕ) → led_coordinates lead at w (n - i) rest ≡ lead ∷ put_coordinate text numbers at w (led_coordinates comma (at + w) w (n - (i + 1)) rest)
+  module _ (lead first w n i : ℕ) where
+    pub coordinates_on : i < n → (rest : List ℕ) → led_coordinates lead (first + i * w) w (n - i) rest ≡ lead ∷ put_coordinate text numbers (first + i * w) w (led_coordinates comma (first + (i + 1) * w) w (n - (i + 1)) rest)
     unfolding led_coordinates
-    coordinates_on h rest = rw (less n i h) (ap (λ l. lead ∷ put_coordinate text numbers at w l) (led_listed (at + w) w (n - (i + 1)) rest))
+    coordinates_on h rest =
+        let on : first + (i + 1) * w ≡ first + i * w + w = omega (arith, suc-mul i w) in
+        rw (on, less n i h) (ap (λ l. lead ∷ put_coordinate text numbers (first + i * w) w l) (led_listed (first + i * w + w) w (n - (i + 1)) rest))
 
-    pub coordinates_end : n ≤ i → (rest : List ℕ) → led_coordinates lead at w (n - i) rest ≡ rest
+    pub coordinates_end : n ≤ i → (rest : List ℕ) → led_coordinates lead (first + i * w) w (n - i) rest ≡ rest
     unfolding led_coordinates
     coordinates_end h rest = rw (none_left n i h)
 
-  pub coordinates_all : (lead first w n : ℕ) → 1 ≤ n → (rest : List ℕ) → lead ∷ put_coordinates text numbers first w n rest ≡ led_coordinates lead first w (n - 0) rest
+  pub coordinates_all : (lead first w n : ℕ) → 1 ≤ n → (rest : List ℕ) → lead ∷ put_coordinates text numbers first w n rest ≡ led_coordinates lead (first + 0 * w) w (n - 0) rest
   unfolding led_coordinates put_coordinates
-  coordinates_all lead first w n h rest = let y : n - 0 ≡ suc (n - 1) = omega arith in rw y
+  coordinates_all lead first w n h rest = let z : first + 0 * w ≡ first = omega (arith, zero-mul w) in let y : n - 0 ≡ suc (n - 1) = omega arith in rw (z, y)
 
 -- ---- sizes
--- n coordinates of w numbers: one, and the others
-pub fewer_numbers : (w n i : ℕ) → i < n → (n - i) * w ≡ w + (n - (i + 1)) * w
-fewer_numbers w n i h = rw (less n i h) (suc-mul (n - (i + 1)) w ∙ add_comm _ _)
-
--- at the start, all
-pub all_from_law : (first w n top : ℕ) → first + n * w < top → first + (n - 0) * w < top
-all_from_law first w n top h = let z : n - 0 ≡ n = omega arith in rw z h
+-- of n coordinates of w numbers, the numbers of the first i, and of one more
+pub numbers_before : (w n i : ℕ) → i < n → i * w + w ≤ n * w
+numbers_before w n i h = omega (arith, suc-mul i w, mul-le-mul_right w h)
 
 pub width_wide : (d w : ℕ) → w ≡ width d → 1 ≤ w
 width_wide d w e = omega (arith, e, width_some d)

@@ -1,7 +1,7 @@
 -- What stands in the room when all that a walk meets is put, one thing after the other; and the answers by it.
 -- Assumes nothing.
-use mathlib.Core.Path.{◌≡◌, refl, sym, ◌∙◌}
-use mathlib.Core.Bool.{true, false, false≢true}
+use mathlib.Core.Path.{◌≡◌, refl}
+use mathlib.Core.Bool.{true, false}
 use mathlib.Core.Option.{Option, none, some}
 use mathlib.Core.List.{List, [], ◌∷◌, ◌++◌}
 use Prim.Native.Nat.{ℕ}
@@ -20,7 +20,7 @@ use Rattle.canonical_text.specs.Canonical.{canonical_text}
 use Rattle.pen.specs.declared.Pen.{Pen}
 use Rattle.pen.specs.Pen.{pen, ToPut, Emits}
 use Rattle.pen.proofs.Written.{writes_full, writes_all}
-use Rattle.to_wkt.specs.declared.PutAnswer.{PutAnswer}
+use Rattle.std.specs.Prelude.{Option as Answer, Some, None}
 use Rattle.store.specs.declared.WriteAnswer.{WriteAnswer}
 use Rattle.store.specs.Answers.{refusal, wrote, Writes}
 use Rattle.to_wkt.specs.Canonical.{store_text, put_met, put_all}
@@ -41,10 +41,10 @@ unfolding put_all
 owed_on text numbers m a ms h rest = rw (put_both text numbers ms (m ∷ []) rest) (a.to _ rest (h (put_met text numbers m rest)))
 
 module _ (text numbers : List ℕ) {o : Option (List Met)} (p : Pen) (out : List ℕ) where
-  pub put_done : (ms : List Met) → o ≡ some ms → Owed text numbers p out ms → PutRows text numbers o (record { ill = false; pen = p }) out
-  put_done ms e h = rw e (refl, h [])
+  pub put_done : (ms : List Met) → o ≡ some ms → Owed text numbers p out ms → PutRows text numbers o (Some p) out
+  put_done ms e h = rw e (record { pen = p; is = refl; put = h [] })
 
-  pub put_ill : o ≡ none → PutRows text numbers o (record { ill = true; pen = p }) out
+  pub put_ill : o ≡ none → PutRows text numbers o None out
   put_ill e = rw e refl
 
 -- a full pen owes nothing more
@@ -71,23 +71,25 @@ module _ (text nodes numbers : List ℕ) where
   said_ill same w h = rw (no_text w, ← same) h
 
   -- by what the loop left
-  module _ (rows : are_rows text nodes numbers ≡ true) (q : PutAnswer) (out : List ℕ) (h : PutRows text numbers (whole_walk nodes (number_room numbers)) q out) where
+  module _ (rows : are_rows text nodes numbers ≡ true) (q : Answer Pen) (out : List ℕ) (h : PutRows text numbers (whole_walk nodes (number_room numbers)) q out) where
     by_walk : PutRows text numbers (walk_of text nodes numbers) q out
     by_walk = rw (the_walk text nodes numbers refl rows) h
 
-    pub treeless : q.ill ≡ true → walk_of text nodes numbers ≡ none
+    pub treeless : q ≡ None → walk_of text nodes numbers ≡ none
     treeless e = go (walk_of text nodes numbers) by_walk
       where
         go : (o : Option (List Met)) → PutRows text numbers o q out → o ≡ none
         go none h = refl
-        go (some ms) h = absurd (false≢true (sym h.0 ∙ e))
+        go (some ms) h = cc (h.is)
 
-    pub stands : q.ill ≡ false → Stands text nodes numbers q.pen out
-    stands good = go (walk_of text nodes numbers) refl by_walk
+    pub stands : (p : Pen) → q ≡ Some p → Stands text nodes numbers p out
+    stands p good = go (walk_of text nodes numbers) refl by_walk
       where
-        go : (o : Option (List Met)) → walk_of text nodes numbers ≡ o → PutRows text numbers o q out → Stands text nodes numbers q.pen out
-        go none e h = absurd (false≢true (sym good ∙ h))
-        go (some ms) e h = record { bytes = put_all text numbers ms []; is = put_is_text text numbers nodes ms e; left = h.1 }
+        go : (o : Option (List Met)) → walk_of text nodes numbers ≡ o → PutRows text numbers o q out → Stands text nodes numbers p out
+        go none e h = cc
+        go (some ms) e h =
+            let same : h.pen ≡ p = cc in
+            record { bytes = put_all text numbers ms []; is = put_is_text text numbers nodes ms e; left = rw same at h.put }
 
 module _ {text nodes numbers : List ℕ} {p : Pen} {out left : List ℕ} (s : Stands text nodes numbers p out) {room : ℕ} (same : length out ≡ room) where
   pub said_full : {r : WriteAnswer} → p.full ≡ true → Writes (refusal no_room) (length out) r left → Written text nodes numbers room r left

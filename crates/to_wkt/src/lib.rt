@@ -19,13 +19,6 @@ use refusals::{ILL_FORMED_STORE, NO_ROOM};
 use store::WriteAnswer;
 use walk::{ABOVE, FRAMES};
 
-// Whether the rows are no tree; and if they are one, the pen after its text.
-#[derive(Drop)]
-struct PutAnswer {
-    ill: bool,
-    pen: Pen,
-}
-
 // `width` numbers from `first` on, separated by blanks, after the byte `lead`.
 fn put_coordinate(
     out: &mut [u8],
@@ -41,11 +34,9 @@ fn put_coordinate(
 {
     let mut q = p;
     let mut before = lead;
-    let mut i = 0;
-    while i < width {
+    for i in 0..width {
         q = pieces::put_number(out, q, before, text, numbers, first + i);
         before = b' ';
-        i += 1;
     }
     q
 }
@@ -65,13 +56,9 @@ fn put_coordinates(
 {
     let mut q = p;
     let mut before = b'(';
-    let mut at = first;
-    let mut i = 0;
-    while i < count {
-        q = put_coordinate(out, q, before, text, numbers, at, width);
+    for i in 0..count {
+        q = put_coordinate(out, q, before, text, numbers, first + i * width, width);
         before = b',';
-        at += width;
-        i += 1;
     }
     q
 }
@@ -107,8 +94,9 @@ fn put_node(out: &mut [u8], p: Pen, text: &[u8], numbers: &[u32], v: Visit) -> P
     put_body(out, head, text, numbers, v)
 }
 
-// Puts all that a walk over the rows meets, if they are a tree.
-fn put_rows(out: &mut [u8], text: &[u8], nodes: &[u32], numbers: &[u32]) -> PutAnswer
+// Puts all that a walk over the rows meets: the pen after the text, if they are a tree.
+// Kept (3): what is met next stands in the step that the walk answers, which takes the lent frames anew at each turn.
+fn put_rows(out: &mut [u8], text: &[u8], nodes: &[u32], numbers: &[u32]) -> Option<Pen>
     ensures { PutRows text.now numbers.now (whole_walk nodes.now (number_room numbers.now)) result out.new }
 {
     let count = store::number_room(numbers);
@@ -127,12 +115,8 @@ fn put_rows(out: &mut [u8], text: &[u8], nodes: &[u32], numbers: &[u32]) -> PutA
                 pen = pen::put_byte(out, pen, b')');
                 w = s.next;
             }
-            Met::Done => {
-                return PutAnswer { ill: false, pen };
-            }
-            Met::Ill => {
-                return PutAnswer { ill: true, pen };
-            }
+            Met::Done => return Some(pen),
+            Met::Ill => return None,
         }
     }
 }
@@ -144,11 +128,9 @@ pub fn write(text: &[u8], nodes: &[u32], numbers: &[u32], out: &mut [u8]) -> Wri
     if !shape::are_rows(text, nodes, numbers) {
         return pen::refuse(out, ILL_FORMED_STORE);
     }
-    let r = put_rows(out, text, nodes, numbers);
-    if r.ill {
+    let Some(p) = put_rows(out, text, nodes, numbers) else {
         return pen::refuse(out, ILL_FORMED_STORE);
-    }
-    let p = r.pen;
+    };
     if p.full {
         return pen::refuse(out, NO_ROOM);
     }

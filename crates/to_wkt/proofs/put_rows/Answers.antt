@@ -41,4 +41,4 @@ pub shape_of-out-in-Ill : goal.shape_of-out-in-Ill
 shape_of-out-in-Ill c = c.loop-v.invariant.0
 
 pub returns-in-Ill : goal.returns-in-Ill
-returns-in-Ill c = put_ill _ _ _ _ (ap (whole_walk _) (sym c.number_room-count.ensures) ∙ ill c.loop-v.invariant.1 c.step-s.ensures c.in-Ill.is)
+returns-in-Ill c = put_ill _ _ c.loop-v.pen _ (ap (whole_walk _) (sym c.number_room-count.ensures) ∙ ill c.loop-v.invariant.1 c.step-s.ensures c.in-Ill.is)

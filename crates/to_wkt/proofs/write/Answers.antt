@@ -7,11 +7,11 @@ use Rattle.to_wkt.proofs.write.Goals as goal
 pub returns-then-not-are_rows : goal.returns-then-not-are_rows
 returns-then-not-are_rows c = said_ill _ _ _ refl (no_walk _ _ _ (sym c.are_rows.ensures ∙ c.if-not-are_rows.true)) c.refuse.ensures
 
-pub returns-then-r : goal.returns-then-r
-returns-then-r c = said_ill _ _ _ c.put_rows-r.auto.out (treeless _ _ _ (sym c.are_rows.ensures ∙ c.if-not-are_rows.false) _ _ c.put_rows-r.ensures c.if-r.true) c.refuse-then-r.ensures
+pub returns-in_default : goal.returns-in_default
+returns-in_default c = said_ill _ _ _ c.put_rows.auto.out (treeless _ _ _ (sym c.are_rows.ensures ∙ c.if-not-are_rows.false) _ _ c.put_rows.ensures c.in_default.is) c.refuse-in_default.ensures
 
 pub returns-then-p : goal.returns-then-p
-returns-then-p c = said_full (stands _ _ _ (sym c.are_rows.ensures ∙ c.if-not-are_rows.false) _ _ c.put_rows-r.ensures c.if-r.false) c.put_rows-r.auto.out c.if-p.true c.refuse-then-p.ensures
+returns-then-p c = said_full (stands _ _ _ (sym c.are_rows.ensures ∙ c.if-not-are_rows.false) _ _ c.put_rows.ensures _ c.in-Some.is) c.put_rows.auto.out c.if-p.true c.refuse-then-p.ensures
 
 pub returns : goal.returns
-returns c = said_all (stands _ _ _ (sym c.are_rows.ensures ∙ c.if-not-are_rows.false) _ _ c.put_rows-r.ensures c.if-r.false) c.put_rows-r.auto.out c.if-p.false c.clear.ensures
+returns c = said_all (stands _ _ _ (sym c.are_rows.ensures ∙ c.if-not-are_rows.false) _ _ c.put_rows.ensures _ c.in-Some.is) c.put_rows.auto.out c.if-p.false c.clear.ensures
