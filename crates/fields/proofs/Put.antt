@@ -1,12 +1,13 @@
 -- Laws of putting: a count from its last byte to its first, and a field from its tag on.
 -- Assumes nothing.
-use mathlib.Core.Path.{◌≡◌, refl, ap, sym, ◌∙◌}
+use mathlib.Core.Path.{◌≡◌, refl, ap, ◌∙◌}
 use mathlib.Core.List.{List, [], ◌∷◌, ◌++◌, append_assoc, append-nil}
 use Prim.Native.Nat.{ℕ, zero, suc, ◌+◌, ◌-◌, ◌/◌, ◌%◌, ◌≤◌, ◌<◌}
 use native.Mathlib.Omega.{arith}
 use native.Mathlib.Numerals.{add-one}
 use lib.ListN.{length, take, drop, set, get_or, length-set}
-use lib.Seq.{sets, sets-eq, length-sets, set_split, drop_at, drop-drop, drop-length, length-take-le}
+use lib.Seq.{sets, length-sets, set_split, drop_at, drop-length, length-take-le}
+use Rattle.lists.proofs.Pasted.{pasted}
 use borrow.Rule.Slice.PartMut.{mid_of, put_mid, mid_len}
 use Rattle.fields.specs.Counts.{byte, count_bytes}
 use Rattle.fields.specs.Fields.{length_width, head_length, longest, field}
@@ -42,12 +43,6 @@ low_length n =
     let b : n % (longest + 1) % byte ≡ n % byte = omega arith in
     rw (a, b)
 
--- a part of a slice that is put back is put where it stood
-part_put : (l ys : List ℕ) (a e : ℕ) → a ≤ e → e ≤ length l → length ys ≡ e - a → put_mid a (e - a) l ys ≡ sets l a ys
-part_put l ys a e h g n =
-    let z : a + (e - a) ≡ a + length ys = omega arith in
-    sym (append_assoc (take a l) ys (drop (e - a) (drop a l))) ∙ ap (λ (x : List ℕ). (take a l ++ ys) ++ x) (drop-drop (e - a) a l ∙ rw z) ∙ sym (sets-eq ys l a (omega arith))
-
 sets_after : (a b l : List ℕ) (i : ℕ) → sets (sets l i a) (i + length a) b ≡ sets l i (a ++ b)
 sets_after [] b l i = let z : i + 0 ≡ i = omega arith in rw z
 sets_after (x ∷ a) b l i = let z : i + suc (length a) ≡ suc i + length a = omega arith in rw z (sets_after a b (set l i x) (suc i))
@@ -70,7 +65,7 @@ module _ (out content counted : List ℕ) (at tag : ℕ) (fits : at + head_lengt
       is ∙ rw n (low_length (length content))
 
   is_headed : headed ≡ sets (set out at tag) (at + 1) counted
-  is_headed = let l = length-set out at tag in part_put (set out at tag) counted (at + 1) (at + head_length) (omega arith) (omega arith) (ap length its_count ∙ bytes_length length_width (length content) ∙ omega arith)
+  is_headed = let l = length-set out at tag in pasted (set out at tag) counted counted (at + 1) (at + head_length) refl (omega (arith, ap length its_count, bytes_length length_width (length content))) (omega arith)
 
   pub headed_length : length headed ≡ length out
   headed_length = ap length is_headed ∙ length-sets (set out at tag) (at + 1) counted ∙ length-set out at tag
@@ -87,11 +82,6 @@ module _ (out content counted : List ℕ) (at tag : ℕ) (fits : at + head_lengt
 
   pub field_one : length content ≡ 1 → set headed (at + head_length) (get_or content 0 0) ≡ sets out at (field tag content)
   field_one e = sets_one content headed (at + head_length) e ∙ field_all
-
-  pub field_copied : {copied : List ℕ} → copied ≡ content → put_mid (at + head_length) (at + head_length + length content - (at + head_length)) headed copied ≡ sets out at (field tag content)
-  field_copied {copied} e =
-      let l = headed_length in
-      rw e (part_put headed content (at + head_length) (at + head_length + length content) (omega arith) (omega arith) (omega arith) ∙ field_all)
 
 -- ---- two bytes and four, put two at a time
 pub two_put : (l : List ℕ) (n : ℕ) → length l ≡ 2 → {r : List ℕ} → r ≡ set (set l 0 (n / byte % byte)) 1 (n % byte) → r ≡ count_bytes (length l) n

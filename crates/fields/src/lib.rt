@@ -118,32 +118,25 @@ pub fn is_sized(bytes: &[u8], at: usize, tag: u8, length: usize) -> bool
 pub fn put_field(out: &mut [u8], p: Pen, tag: u8, content: &[u8]) -> Pen
     ensures { Puts (field tag content.now) p out.old result out.new }
 {
-    let at = p.at;
     let len = content.len();
-    if p.full {
-        return Pen { at, full: true };
-    }
-    if out.len() < at {
-        return Pen { at, full: true };
-    }
-    if out.len() - at < HEAD {
-        return Pen { at, full: true };
-    }
-    if out.len() - at - HEAD < len {
-        return Pen { at, full: true };
-    }
-    let start = at + HEAD;
-    let end = start + len;
-    out[at] = tag;
-    put_count(&mut out[at + 1..start], (len % LENGTHS) as u32);
-    // A content of one byte needs no call that copies.
-    if len == 1 {
-        out[start] = content[0];
-    } else {
-        out[start..end].copy_from_slice(content);
-    }
-    Pen {
-        at: end,
-        full: false,
+    match pen::end_of(out, p, HEAD + len) {
+        Some(end) => {
+            let start = p.at + HEAD;
+            out[p.at] = tag;
+            put_count(&mut out[p.at + 1..start], (len % LENGTHS) as u32);
+            // A content of one byte needs no call that copies.
+            match content {
+                [b] => out[start] = *b,
+                _ => out[start..end].copy_from_slice(content),
+            }
+            Pen {
+                at: end,
+                full: false,
+            }
+        }
+        None => Pen {
+            at: p.at,
+            full: true,
+        },
     }
 }

@@ -1,35 +1,25 @@
--- `fields::put_field` meets its contract: the tag, the length, and then storing what is left of the content gives what storing all of it gives.
+-- `fields::put_field` meets its contract: the tag, the length, and the content copied after them, where there is room.
+use mathlib.Core.Path.{sym, ◌∙◌}
 use native.Mathlib.Omega.{arith}
+use Rattle.lists.proofs.Pasted.{pasted}
 use Rattle.fields.specs.Fields.{field}
 use Rattle.fields.proofs.Fields.{field_length}
-use Rattle.fields.proofs.Put.{field_one, field_copied}
-use Rattle.pen.proofs.Puts.{puts_full, puts_none, puts_all}
+use Rattle.fields.proofs.Put.{headed_length, field_all, field_one}
+use Rattle.pen.proofs.Puts.{ends_in, puts_in, puts_out}
 use Rattle.fields.proofs.put_field.Goals as goal
 
-pub returns-then-p : goal.returns-then-p
-returns-then-p c = puts_full _ _ _ c.if-p.true
-
-pub returns-then-out-at : goal.returns-then-out-at
-returns-then-out-at c =
+pub returns-in-len1 : goal.returns-in-len1
+returns-in-len1 c =
     let s = c.args in
-    puts_none (field s.tag s.content.now) _ _ c.if-p.false (omega (arith, field_length s.tag s.content.now, c.if-out-at.true))
+    let r = ends_in s.p s.out.now _ _ c.in-Some.ensures in
+    puts_in (field s.tag s.content.now) _ _ (sym (field_length s.tag s.content.now)) _ _ c.in-Some.ensures (field_one s.out.now s.content.now _ s.p.at s.tag (omega (arith, r.2)) c.put_count.ensures (omega arith))
 
-pub returns-then-out-at-lt-HEAD : goal.returns-then-out-at-lt-HEAD
-returns-then-out-at-lt-HEAD c =
+pub returns-in_default : goal.returns-in_default
+returns-in_default c =
     let s = c.args in
-    puts_none (field s.tag s.content.now) _ _ c.if-p.false (omega (arith, field_length s.tag s.content.now, c.if-out-at-lt-HEAD.true))
+    let r = ends_in s.p s.out.now _ _ c.in-Some.ensures in
+    let l = headed_length s.out.now s.content.now _ s.p.at s.tag (omega (arith, r.2)) c.put_count.ensures in
+    puts_in (field s.tag s.content.now) _ _ (sym (field_length s.tag s.content.now)) _ _ c.in-Some.ensures (pasted _ s.content.now _ _ _ c.copy_from_slice.ensures.after (omega (arith, r.1)) (omega (arith, l, r.1, r.2)) ∙ field_all s.out.now s.content.now _ s.p.at s.tag (omega (arith, r.2)) c.put_count.ensures)
 
-pub returns-then-out-at-2 : goal.returns-then-out-at-2
-returns-then-out-at-2 c =
-    let s = c.args in
-    puts_none (field s.tag s.content.now) _ _ c.if-p.false (omega (arith, field_length s.tag s.content.now, c.if-out-at-2.true))
-
-pub returns-then-len-eq1 : goal.returns-then-len-eq1
-returns-then-len-eq1 c =
-    let s = c.args in
-    puts_all (field s.tag s.content.now) _ _ c.if-p.false (omega (arith, field_length s.tag s.content.now)) _ _ (omega (arith, field_length s.tag s.content.now)) (field_one s.out.now s.content.now _ s.p.at s.tag (omega arith) c.put_count.ensures c.if-len-eq1.true)
-
-pub returns-else-len-eq1 : goal.returns-else-len-eq1
-returns-else-len-eq1 c =
-    let s = c.args in
-    puts_all (field s.tag s.content.now) _ _ c.if-p.false (omega (arith, field_length s.tag s.content.now)) _ _ (omega (arith, field_length s.tag s.content.now)) (field_copied s.out.now s.content.now _ s.p.at s.tag (omega arith) c.put_count.ensures c.copy_from_slice.ensures.after)
+pub returns-in-None : goal.returns-in-None
+returns-in-None c = puts_out (field c.args.tag c.args.content.now) _ _ (sym (field_length c.args.tag c.args.content.now)) c.in-None.ensures
