@@ -1,14 +1,11 @@
 // What stands after a name, and a name with it: `infer_geom_dimension` of the Rust, and the start of `from_tokens_with_parens`.
 #![tactic(auto)]
 
-ghost use Rattle.std.specs.Prelude.{◌≡◌, cond, eqb, ◌+◌, ◌≤◌, length};
+ghost use Rattle.std.specs.Prelude.{◌≡◌, ◌+◌, ◌≤◌, length};
 ghost use Rattle.scan.specs.Bytes.{is_ascii};
 ghost use Rattle.std.specs.List.{list_all};
-ghost use Rattle.refusals.specs.Refusals.{no_root};
-ghost use Rattle.token.specs.Tokens.{bad_at};
 ghost use Rattle.tokenizer.specs.Tokens.{cursor_at};
-ghost use Rattle.grammar.specs.Tokens.{sort_bad};
-ghost use Rattle.grammar.specs.Grammar.{refusal, opener, header, by_name, child_head, root_head};
+ghost use Rattle.grammar.specs.Grammar.{opener, header, by_name, child_head, root_head};
 ghost use Rattle.headings.specs.Heads.{MetHead, empty_at};
 
 use kinds::DIM_XY;
@@ -16,7 +13,7 @@ use names::Name;
 use refusals::{
     NO_CHILD, NO_HEADER, NO_ROOT, NON_ASCII_ROOT, NOT_OPENED, UNKNOWN_HEADER, UNKNOWN_NAME,
 };
-use sorts::{BAD, OPEN, Taken, WORD};
+use sorts::{OPEN, Taken, WORD};
 use token::Refusal;
 use tokenizer::Cursor;
 
@@ -161,20 +158,6 @@ fn is_ascii(w: &[u8]) -> bool
     w.iter().all(|b| *b <= 127)
 }
 
-// The refusal of what stands in the root's place and is no word: "a bad number [28 or 29]; no token or any other token 8". It is `sorts::refusal_at` of
-// 8, and asks for a bad number's refusal itself: with two callers that stays a function of its own, and no token that is read pays for it.
-fn no_root(text: &[u8], sort: u32, place: usize) -> Refusal
-    ensures { result ≡ cond (eqb sort sort_bad) (bad_at text.now place) (refusal no_root place) }
-{
-    if sort == BAD {
-        return token::bad_number_at(text, place);
-    }
-    Refusal {
-        number: NO_ROOT,
-        place,
-    }
-}
-
 // The name of the root, and what follows it.
 pub fn root_head(text: &[u8], at: usize) -> Result<Head, NoHead>
     ensures { MetHead text.now root_head (cursor_at at) result }
@@ -182,7 +165,7 @@ pub fn root_head(text: &[u8], at: usize) -> Result<Head, NoHead>
     let token = sorts::take_at(text, at);
     if token.sort != WORD {
         return Err(NoHead {
-            refusal: no_root(text, token.sort, token.place),
+            refusal: sorts::refusal_at(text, NO_ROOT, token.sort, token.place),
             next: Cursor::new(token.at),
         });
     }

@@ -9,7 +9,7 @@ use Rattle.headings.proofs.Heads.{told, told_word, root_no, root_word, root_wide
 use Rattle.headings.proofs.root_head.Goals as goal
 
 pub returns-then-token-ne-WORD : goal.returns-then-token-ne-WORD
-returns-then-token-ne-WORD c = root_no c.take_at-token.ensures c.if-token-ne-WORD.true c.no_root.ensures c.new.ensures
+returns-then-token-ne-WORD c = root_no c.take_at-token.ensures c.if-token-ne-WORD.true c.refusal_at.ensures c.new.ensures
 
 pub overflow_add-end : goal.overflow_add-end
 overflow_add-end c = omega (arith, (told _ _ c.take_at-token.ensures).fits)
