@@ -122,8 +122,7 @@ pub fn peek_from(text: &[u8], cursor: Cursor) -> Step
 pub fn first(text: &[u8], place: usize) -> Found
     ensures { result ≡ next_of (reader text.entry (cursor_at place)) }
 {
-    let step = next_from(text, Cursor::new(place));
-    step.found
+    next_from(text, Cursor::new(place)).found
 }
 
 // The token that comes after `n` others, from a place on.
@@ -131,12 +130,8 @@ pub fn nth(text: &[u8], place: usize, n: usize) -> Found
     ensures { result ≡ nth_from text.now n (cursor_at place) }
 {
     let mut cursor = Cursor::new(place);
-    let mut left = n;
-    while left > 0 {
-        let step = take_from(text, cursor);
-        cursor = step.next;
-        left -= 1;
+    for _ in 0..n {
+        cursor = take_from(text, cursor).next;
     }
-    let step = take_from(text, cursor);
-    step.found
+    take_from(text, cursor).found
 }

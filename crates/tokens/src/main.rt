@@ -10,6 +10,7 @@ mod ways;
 
 ghost use Rattle.std.specs.Prelude.{◌≤◌, ◌<◌, length};
 
+use console::{U32_BYTES, u32_at};
 use printing::{STDIN_FILENO, flush, least, put};
 use shown_tokens::put_found;
 use token::Found;
@@ -21,8 +22,6 @@ const INPUT_BYTES: usize = 1_048_576;
 
 const OUT_BYTES: usize = 65_536;
 
-const U32_BYTES: usize = 4;
-
 // Where the parts of a record stand, behind its count.
 const LETTER: usize = U32_BYTES;
 
@@ -32,33 +31,9 @@ const COUNT: usize = PLACE + U32_BYTES;
 
 const TEXT: usize = COUNT + U32_BYTES;
 
-const BYTE: u32 = 256;
-
-const TWO_BYTES: u32 = 65_536;
-
-fn wide(b: u8) -> u32
-    ensures { result ≤ 255 }
-{
-    b as u32
-}
-
-fn both(low: u8, high: u8) -> u32
-    ensures { result ≤ 65535 }
-{
-    wide(low) + wide(high) * BYTE
-}
-
-// The u32 that stands at a place, its lowest byte first; 0 where it isn't there whole.
+// The u32 that stands at a place, as a count or a place.
 fn field(bytes: &[u8], at: usize) -> usize {
-    if bytes.len() < U32_BYTES {
-        return 0;
-    }
-    if bytes.len() - U32_BYTES < at {
-        return 0;
-    }
-    let low = both(bytes[at], bytes[at + 1]);
-    let high = both(bytes[at + 2], bytes[at + 3]);
-    (low + high * TWO_BYTES) as usize
+    u32_at(bytes, at) as usize
 }
 
 // What was found, behind a space.
@@ -78,13 +53,10 @@ fn put_tokens(
 ) -> usize {
     let mut cursor = Cursor::new(place);
     let mut end = at;
-    let mut i = 0;
-    while i < count {
+    for i in 0..count {
         let step = step_by(way, text, cursor, place, i);
-        let found = step.found;
-        end = put_spaced(out, end, found);
+        end = put_spaced(out, end, step.found);
         cursor = step.next;
-        i += 1;
     }
     end
 }
@@ -168,6 +140,7 @@ fn record_end(input: &[u8], from: usize) -> usize
 }
 
 fn put_records(out: &mut [u8], input: &[u8]) -> usize {
+    // Kept (3): each turn goes on by as many bytes as its record has, so there is no range to count.
     let mut from = 0;
     let mut at = 0;
     while from < input.len() {

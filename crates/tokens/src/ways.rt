@@ -1,8 +1,8 @@
 // The ways to come by the next token, each a step: what was found, and the cursor to go on with.
-ghost use Rattle.std.specs.Prelude.{◌≡◌};
-ghost use Rattle.tokenizer.specs.Tokens.{take_at, cursor_at, step};
+ghost use Rattle.std.specs.Prelude.{◌≡◌, List, ℕ};
+ghost use Rattle.tokenizer.specs.Tokens.{take_at, look_at, cursor_at, step};
 ghost use Rattle.token_reader.specs.Reader.{nth_from};
-ghost use Rattle.tokens.specs.Ways.{shown_of, step_of};
+ghost use Rattle.tokens.specs.Ways.{Steps, shown_of, step_of};
 
 use token_reader::{look_from, next_from, nth, peek_from, take_from};
 use tokenizer::{Cursor, Step};
@@ -15,6 +15,7 @@ pub(crate) enum Look {
     Taken,
 }
 
+// Kept (7): `step_by` says of all ways at once that they find one token (`step_of`), which docs/DEMANDS.md names; of a closure for each it would be said nine times.
 #[derive(Clone, Copy)]
 pub(crate) enum Way {
     // By a reader that is lent: taken, or looked at twice and then taken.
@@ -40,20 +41,20 @@ fn shown(look: Look, first: Step, second: Step, taken: Step) -> Step
     Step { found, next }
 }
 
-fn by_peeks(look: Look, text: &[u8], cursor: Cursor) -> Step
-    ensures { result ≡ take_at text.now cursor }
+// Looks twice and then takes, by a look and a taking that are given.
+fn by_looks<L: Fn(Cursor) -> Step, T: Fn(Cursor) -> Step>(
+    show: Look,
+    cursor: Cursor,
+    look: L,
+    take: T,
+) -> Step
+    requires looks { L.IsAlwaysCallable look }
+    requires takes { T.IsAlwaysCallable take }
+    ensures { (text : List ℕ) → Steps (L.post look) (look_at text) → Steps (T.post take) (take_at text) → result ≡ take_at text cursor }
 {
-    let first = peek_from(text, cursor);
-    let second = peek_from(text, first.next);
-    shown(look, first, second, next_from(text, second.next))
-}
-
-fn by_looks(look: Look, text: &[u8], cursor: Cursor) -> Step
-    ensures { result ≡ take_at text.now cursor }
-{
-    let first = look_from(text, cursor);
-    let second = look_from(text, first.next);
-    shown(look, first, second, take_from(text, second.next))
+    let first = look(cursor);
+    let second = look(first.next);
+    shown(show, first, second, take(second.next))
 }
 
 // The token that comes after `i` others from `place` on; the cursor stays.
@@ -73,9 +74,9 @@ pub(crate) fn step_by(way: Way, text: &[u8], cursor: Cursor, place: usize, i: us
 {
     match way {
         Way::Next => next_from(text, cursor),
-        Way::Peek(look) => by_peeks(look, text, cursor),
+        Way::Peek(show) => by_looks(show, cursor, |c| peek_from(text, c), |c| next_from(text, c)),
         Way::Take => take_from(text, cursor),
-        Way::Look(look) => by_looks(look, text, cursor),
+        Way::Look(show) => by_looks(show, cursor, |c| look_from(text, c), |c| take_from(text, c)),
         Way::Nth => by_nth(text, cursor, place, i),
     }
 }

@@ -3,4 +3,4 @@ use Rattle.tokens.proofs.Looked.{looked}
 use Rattle.tokens.proofs.ways.by_looks.Goals as goal
 
 pub returns : goal.returns
-returns c = looked _ _ _ _ _ c.look_from-first.ensures c.look_from-second.ensures c.take_from.ensures _ _ c.shown.ensures
+returns g c = λ text looks takes. looked text _ _ _ _ (looks _ _ c.look-first.ensures) (looks _ _ c.look-second.ensures) (takes _ _ c.take.ensures) _ _ c.shown.ensures
