@@ -1,4 +1,6 @@
 // The byte classes of WKT's tokens, and scans over runs of them.
+// Kept (5): a text and a place in it stay two parameters. Most callers have one text and several places in it; where one place goes with the text through
+// all calls, the struct is `token_reader::Tokens`.
 #![tactic(auto)]
 
 ghost use Rattle.std.specs.Prelude.{◌≡◌, ℕ, Bool, false};

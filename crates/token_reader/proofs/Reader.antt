@@ -2,8 +2,7 @@
 -- Assumes nothing.
 use mathlib.Core.Path.{◌≡◌, refl, ap, ◌∙◌}
 use mathlib.Core.List.{List}
-use Prim.Native.Nat.{ℕ, zero, suc, ◌-◌, ◌≤◌}
-use native.Mathlib.Omega.{arith}
+use Prim.Native.Nat.{ℕ, suc}
 use Rattle.token.specs.declared.Found.{Found}
 use Rattle.tokenizer.specs.declared.Held.{Held}
 use Rattle.tokenizer.specs.declared.Cursor.{Cursor}
@@ -15,18 +14,14 @@ use Rattle.token_reader.specs.declared.Tokens.{Tokens}
 use Rattle.token_reader.specs.Reader.{reader, next_of, after_next, peek_of, after_peek, nth_from}
 
 -- a turn of `nth`: after a step one token fewer is left to count off
-pub nth_on : (text : List ℕ) (left : ℕ) (c : Cursor) (s : Step) → s ≡ take_at text c → 1 ≤ left → nth_from text (left - 1) s.next ≡ nth_from text left c
+pub nth_on : (text : List ℕ) (left : ℕ) (c : Cursor) (s : Step) → s ≡ take_at text c → nth_from text left s.next ≡ nth_from text (suc left) c
 unfolding nth_from
-nth_on text zero c s e h = absurd (omega arith)
-nth_on text (suc n) c s e h =
-    let less : suc n - 1 ≡ n = omega arith in
-    ap (λ (t : Step). nth_from text (suc n - 1) t.next) e ∙ ap (λ (k : ℕ). nth_from text k (take_at text c).next) less
+nth_on text left c s e = ap (λ (t : Step). nth_from text left t.next) e
 
 -- and with none left the step's token is the one asked for
-pub nth_here : (text : List ℕ) (left : ℕ) (c : Cursor) (s : Step) → s ≡ take_at text c → left ≤ 0 → s.found ≡ nth_from text left c
+pub nth_here : (text : List ℕ) (c : Cursor) (s : Step) → s ≡ take_at text c → s.found ≡ nth_from text 0 c
 unfolding nth_from
-nth_here text zero c s e h = ap (λ (t : Step). t.found) e
-nth_here text (suc n) c s e h = absurd (omega arith)
+nth_here text c s e = ap (λ (t : Step). t.found) e
 
 -- what is held comes out as it is, and nothing is held after it
 held_out : (text : List ℕ) (i : ℕ) (f : Found) → take_held text i (hold f) ≡ step f (cursor_at i)

@@ -1,11 +1,8 @@
--- What `token_reader::nth` keeps true in its loop, and what falls: what is still to be counted off from the cursor leads to the token asked for.
-use Rattle.std.proofs.Common.{◌≡◌}
+-- What `token_reader::nth` keeps true in its loop: as many tokens on from the cursor as are still to be counted off stands the token asked for.
+use Rattle.std.proofs.Common.{◌≡◌, ℕ, ◌+◌}
 use Rattle.tokenizer.specs.Tokens.{cursor_at}
 use Rattle.token_reader.specs.Reader.{nth_from}
 use Rattle.token_reader.proofs.nth.Given as goal
 
-abbrev pub invariant-loop-left : goal.invariant-loop-left
-invariant-loop-left l = nth_from l.text l.left l.cursor ≡ nth_from l.text l.n (cursor_at l.place)
-
-abbrev pub decreases-loop-left : goal.decreases-loop-left
-decreases-loop-left l = l.left
+abbrev pub invariant-loop : goal.invariant-loop
+invariant-loop l = (left : ℕ) → l.counter + left ≡ l.n → nth_from l.text left l.cursor ≡ nth_from l.text l.n (cursor_at l.place)
