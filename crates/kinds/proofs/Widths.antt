@@ -1,14 +1,9 @@
 -- How many numbers a coordinate has.
 -- Assumes nothing.
-use mathlib.Core.Path.{◌≡◌}
 use mathlib.Core.Bool.{Bool, true, false, cond}
-use Prim.Native.Nat.{ℕ, ◌+◌, ◌≤◌}
+use Prim.Native.Nat.{ℕ, ◌≤◌}
 use native.Mathlib.Omega.{arith}
 use Rattle.kinds.specs.Kinds.{has_z, has_m, width}
-
-pub width_is : (d : ℕ) {z m : Bool} → has_z d ≡ z → has_m d ≡ m → 2 + (cond z 1 0 + cond m 1 0) ≡ width d
-unfolding width
-width_is d z m = rw (z, m)
 
 bit_few : (b : Bool) → cond b 1 0 ≤ 1
 bit_few true = omega arith

@@ -42,9 +42,5 @@ pub fn has_m(dimension: u32) -> bool
 pub fn width_of(dimension: u32) -> usize
     ensures { result ≡ width dimension }
 {
-    if has_z(dimension) {
-        if has_m(dimension) { 4 } else { 3 }
-    } else {
-        if has_m(dimension) { 3 } else { 2 }
-    }
+    2 + usize::from(has_z(dimension)) + usize::from(has_m(dimension))
 }

@@ -8,6 +8,7 @@ ghost use Rattle.pen.specs.Pen.{end_of, Puts};
 use store::WriteAnswer;
 
 // How many bytes stand, and whether a piece had no room. A full pen puts nothing more.
+// Kept (1): `Puts` says of a piece without room that the pen stays at its place, and takes full pens too: an Option of a place would say neither.
 #[derive(Clone, Copy)]
 pub struct Pen {
     pub at: usize,
