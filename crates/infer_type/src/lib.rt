@@ -12,8 +12,6 @@ use refusals::{
     UNSUPPORTED_NAME,
 };
 
-const LAST_ASCII: u8 = 0x7F;
-
 const SPACE: [u8; 1] = *b" ";
 
 // What a text is found to be, with number and place 0; or the number and the place of its refusal, with zeros after them.
@@ -51,14 +49,14 @@ fn refuse(number: u32, place: usize) -> Inferred
 fn is_trimmed(b: u8) -> bool
     ensures { result ≡ is_trimmed b }
 {
-    ((b'\t' <= b) & (b <= b'\r')) | (b == b' ')
+    matches!(b, b'\t'..=b'\r' | b' ')
 }
 
 // What does not end the part looked at.
 fn is_looked(b: u8) -> bool
     ensures { result ≡ is_looked b }
 {
-    (b <= LAST_ASCII) & (b != b'(')
+    b.is_ascii() && b != b'('
 }
 
 // The place of the first byte that is not trimmed, or the end.

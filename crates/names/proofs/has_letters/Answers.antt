@@ -1,5 +1,4 @@
 -- `names::has_letters` meets its contract. Both loops' invariant: what is left of the word and the name from `i` on decides.
-use native.Mathlib.Omega.{arith}
 use mathlib.Core.Path.{sym, ap, ◌∙◌}
 use Rattle.names.proofs.Capitals.{no_cases, left_start, letters_short, letters_within, letters_end, letters_on, letters_off, letters_four, letters_four_off}
 use Rattle.names.proofs.has_letters.Goals as goal
@@ -13,30 +12,15 @@ loop-i-init c = (c.if-w-length.false, left_start _ _)
 pub overflow_sub-length : goal.overflow_sub-length
 overflow_sub-length c = letters_within _ _ _ c.requires.0 _ c.loop-i.invariant.1
 
-pub four_at-requires : goal.four_at-requires
-four_at-requires c = omega (arith, c.loop-i.invariant.0, c.loop-i-test.true)
-
-pub four_at-requires-in-loop-i : goal.four_at-requires-in-loop-i
-four_at-requires-in-loop-i c = omega (arith, c.requires.0, c.loop-i-test.true)
-
 pub returns-then-four_at : goal.returns-then-four_at
 returns-then-four_at c =
     let at = c.loop-i in
     letters_four_off _ _ _ c.requires.0 at.i at.invariant.1 at.invariant.0 c.requires.1 (λ j. (c.type_inv.w j).fits) c.loop-i-test.true (λ e. c.if-four_at.true (ap no_cases c.four_at.ensures ∙ e ∙ sym c.four_at-in-loop-i.ensures))
 
-pub overflow_add-i : goal.overflow_add-i
-overflow_add-i c = omega (arith, c.loop-i-test.true)
-
-pub loop-i-smaller : goal.loop-i-smaller
-loop-i-smaller c = omega (arith, c.loop-i-test.true)
-
 pub loop-i-preserved : goal.loop-i-preserved
 loop-i-preserved c =
     let at = c.loop-i in
     (at.invariant.0, letters_four _ _ _ c.requires.0 at.i at.invariant.1 at.invariant.0 c.requires.1 (λ j. (c.type_inv.w j).fits) c.loop-i-test.true (ap no_cases (sym c.four_at.ensures) ∙ c.if-four_at.false ∙ c.four_at-in-loop-i.ensures))
-
-pub loop-place-init : goal.loop-place-init
-loop-place-init c = c.loop-i.invariant
 
 pub returns-then-w-place : goal.returns-then-w-place
 returns-then-w-place c =
