@@ -13,6 +13,7 @@ use store::{ReadAnswer, WriteAnswer};
 use stored_form::Edition;
 use stored_moves::MoveAnswer;
 
+// Kept (2): README and docs/DEMANDS.md name the entry of each version ("Each version has its own entry"); what they do is one function over an Edition, in the crates below.
 // Reads stored bytes of version 1 into rows of both slices. Spans point into `bytes`. Every place after the used rows is zero, and on a refusal every
 // place.
 pub fn read_1(bytes: &[u8], nodes: &mut [u32], numbers: &mut [u32]) -> ReadAnswer

@@ -21,6 +21,7 @@ use stored_form::{Edition, HEAD_TAG, NODE_TAG, NUMBER_TAG};
 use stored_moves::MoveAnswer;
 
 // The most bytes that a head's content can have, and a node's: with counts of four bytes.
+// Kept (6): their contents lie in arrays of that length, and the part in use is borrowed from them: no heap.
 const HEAD_CONTENT: usize = 9;
 
 const NODE_CONTENT: usize = 6;

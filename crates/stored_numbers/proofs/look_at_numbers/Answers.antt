@@ -1,5 +1,5 @@
 -- `stored_numbers::look_at_numbers` meets its contract.
-use mathlib.Core.Path.{refl, sym, ◌∙◌}
+use mathlib.Core.Path.{sym, ◌∙◌}
 use Prim.Native.Nat.{◌+◌}
 use native.Mathlib.Omega.{arith}
 use Rattle.scan.proofs.Front.{tail_part}

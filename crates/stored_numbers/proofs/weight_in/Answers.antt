@@ -1,5 +1,4 @@
 -- `stored_numbers::weight_in` meets its contract. The loop's invariant: the sum is what the bytes so far weigh.
-use native.Mathlib.Omega.{arith}
 use Rattle.stored_numbers.proofs.Weights.{nothing_weighed, Adds, adds, one_weighed, all_weighed}
 use Rattle.stored_numbers.proofs.weight_in.Goals as goal
 
