@@ -1,31 +1,35 @@
 -- The first fault of the things that were met, when one more is met.
 -- Assumes nothing.
 use mathlib.Core.Path.{◌≡◌, refl}
-use mathlib.Core.Bool.{Bool, true, false, cond}
 use mathlib.Core.List.{List, [], ◌∷◌, ◌++◌}
 use Prim.Native.Nat.{ℕ}
-use lib.Dec.{eqb}
+use Rattle.std.specs.Prelude.{Option, Some, None}
+use Rattle.nodes.specs.declared.Visit.{Visit}
 use Rattle.nodes.specs.declared.Met.{Met}
 use Rattle.nodes.specs.declared.Met.TheVariants.{Node, End, Done, Ill}
-use Rattle.strict.specs.Rules.{no_letter, fault}
-use Rattle.strict.specs.Strict.{answer, first_fault, or_else}
+use Rattle.strict.specs.declared.Fault.{Fault}
+use Rattle.strict.specs.Rules.{fault}
+use Rattle.strict.specs.Strict.{fault_at, or_else, found}
+
+or_none : (a : Option Fault) → or_else a None ≡ a
+or_none None = refl
+or_none (Some f) = refl
+
+or_assoc : (a b c : Option Fault) → or_else a (or_else b c) ≡ or_else (or_else a b) c
+or_assoc None b c = refl
+or_assoc (Some f) b c = refl
 
 module _ (text numbers : List ℕ) where
-  pub fault_on : (ms : List Met) (m : Met) → first_fault text numbers (ms ++ (m ∷ [])) ≡ or_else (first_fault text numbers ms) (first_fault text numbers (m ∷ []))
-  unfolding first_fault
-  fault_on [] m = refl
-  fault_on (Node v ∷ ms) m = go (eqb (fault text numbers v) no_letter) refl (fault_on ms m)
-    where
-      go : (b : Bool) → eqb (fault text numbers v) no_letter ≡ b → first_fault text numbers (ms ++ (m ∷ [])) ≡ or_else (first_fault text numbers ms) (first_fault text numbers (m ∷ [])) →
-          cond b (first_fault text numbers (ms ++ (m ∷ []))) (answer 0 (fault text numbers v) v.row) ≡ or_else (cond b (first_fault text numbers ms) (answer 0 (fault text numbers v) v.row)) (first_fault text numbers (m ∷ []))
-      go true e ih = ih
-      go false e ih = rw e
-  fault_on (End i n ∷ ms) m = fault_on ms m
-  fault_on (Done ∷ ms) m = fault_on ms m
-  fault_on (Ill ∷ ms) m = fault_on ms m
+  pub fault_on : (ms : List Met) (v : Visit) → found text numbers (ms ++ (Node v ∷ [])) ≡ or_else (found text numbers ms) (fault_at v (fault text numbers v))
+  unfolding found
+  fault_on [] v = or_none (fault_at v (fault text numbers v))
+  fault_on (Node u ∷ ms) v = rw (fault_on ms v) (or_assoc (fault_at u (fault text numbers u)) (found text numbers ms) (fault_at v (fault text numbers v)))
+  fault_on (End i n ∷ ms) v = fault_on ms v
+  fault_on (Done ∷ ms) v = fault_on ms v
+  fault_on (Ill ∷ ms) v = fault_on ms v
 
-  pub fault_end : (ms : List Met) (i n : ℕ) → first_fault text numbers (ms ++ (End i n ∷ [])) ≡ first_fault text numbers ms
-  unfolding first_fault
+  pub fault_end : (ms : List Met) (i n : ℕ) → found text numbers (ms ++ (End i n ∷ [])) ≡ found text numbers ms
+  unfolding found
   fault_end [] i n = refl
   fault_end (Node v ∷ ms) i n = rw (fault_end ms i n)
   fault_end (End a b ∷ ms) i n = fault_end ms i n

@@ -4,14 +4,14 @@ use mathlib.Core.Path.{◌≡◌, refl, ap}
 use mathlib.Core.Bool.{Bool, true, false, cond}
 use mathlib.Core.List.{List, [], ◌∷◌}
 use Prim.Native.Nat.{ℕ}
-use lib.Dec.{eqb}
+use Rattle.std.specs.Prelude.{Option, Some, None}
 use Rattle.lists.specs.Lists.{All}
 use Rattle.nodes.specs.declared.Visit.{Visit}
 use Rattle.nodes.specs.declared.Met.{Met}
 use Rattle.nodes.specs.declared.Met.TheVariants.{Node, End, Done, Ill}
 use Rattle.strict.specs.declared.StrictAnswer.{StrictAnswer}
-use Rattle.strict.specs.Rules.{letter_a, letter_b, letter_c, letter_d, no_letter, fails_a, fails_b, fails_c, fails_d, fault}
-use Rattle.strict.specs.Strict.{answer, first_fault}
+use Rattle.strict.specs.Rules.{letter_a, letter_b, letter_c, letter_d, fails_a, fails_b, fails_c, fails_d, fault}
+use Rattle.strict.specs.Strict.{fault_at, or_else, found, told, first_fault}
 use Rattle.strict.specs.Outcome.{RulesHoldAt, a_fails, b_fails, c_fails, d_fails, Outcome, passes, fails}
 
 module _ (text numbers : List ℕ) where
@@ -23,8 +23,8 @@ module _ (text numbers : List ℕ) where
 
   -- a node, by what each rule says of it
   at_node : (v : Visit) (ms : List Met) (a b c d : Bool) → fails_a v ≡ a → fails_b v ≡ b → fails_c text numbers v ≡ c → fails_d v ≡ d → Outcome text numbers ms (first_fault text numbers ms) →
-      (letter : ℕ) → letter ≡ cond a letter_a (cond b letter_b (cond c letter_c (cond d letter_d no_letter))) →
-      Outcome text numbers (Node v ∷ ms) (cond (eqb letter no_letter) (first_fault text numbers ms) (answer 0 letter v.row))
+      (letter : Option ℕ) → letter ≡ cond a (Some letter_a) (cond b (Some letter_b) (cond c (Some letter_c) (cond d (Some letter_d) None))) →
+      Outcome text numbers (Node v ∷ ms) (told (or_else (fault_at v letter) (found text numbers ms)))
   unfolding All
   at_node v ms true b c d ea eb ec ed rest letter is = rw is (fails [] v ms refl tt (a_fails ea))
   at_node v ms false true c d ea eb ec ed rest letter is = rw is (fails [] v ms refl tt (b_fails ea eb))
@@ -34,7 +34,7 @@ module _ (text numbers : List ℕ) where
 
   -- "First failing rule in node order": the answer names it, and none fails before it or with a lower letter; or all hold
   pub first_fault_law : (ms : List Met) → Outcome text numbers ms (first_fault text numbers ms)
-  unfolding first_fault All fault
+  unfolding found All fault
   first_fault_law [] = passes tt
   first_fault_law (Node v ∷ ms) = at_node v ms (fails_a v) (fails_b v) (fails_c text numbers v) (fails_d v) refl refl refl refl (first_fault_law ms) (fault text numbers v) refl
   first_fault_law (End i n ∷ ms) = later (End i n) ms (first_fault text numbers ms) tt (first_fault_law ms)

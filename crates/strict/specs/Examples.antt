@@ -15,7 +15,7 @@ use Rattle.shape.specs.Numbers.{text_at, are_numbers}
 use Rattle.shape.specs.Store.{are_whole, tree_of, walk_of}
 use Rattle.strict.specs.declared.StrictAnswer.{StrictAnswer}
 use Rattle.strict.specs.Rules.{letter_a, letter_b, letter_c, letter_d, no_letter, same_bytes, same_texts, closed, fails_c, fault}
-use Rattle.strict.specs.Strict.{answer, first_fault, strict_of}
+use Rattle.strict.specs.Strict.{answer, found, strict_of}
 
 text : List ℕ
 text = bytes "0 1 2 inf INF"
@@ -58,7 +58,7 @@ fine : StrictAnswer
 fine = answer 0 no_letter 0
 
 all : ℕ
-unfolding text n0 n1 n2 inf INF says leaf line_string ring three fine flat_rows begins after_one after_all is_nil same_word is_named is_digits is_exponent is_decimal is_unsigned is_lexeme every cell firsts rows_in spans_in width flat_map rows_with on_front as_a times find_text find_row exactly_one at_most_one find_parts find_node whole walk_each walk_parts text_at are_numbers are_whole tree_of walk_of same_bytes same_texts closed fails_c fault first_fault strict_of
+unfolding text n0 n1 n2 inf INF says leaf line_string ring three fine flat_rows begins after_one after_all is_nil same_word is_named is_digits is_exponent is_decimal is_unsigned is_lexeme every cell firsts rows_in spans_in width flat_map rows_with on_front as_a times find_text find_row exactly_one at_most_one find_parts find_node whole walk_each walk_parts text_at are_numbers are_whole tree_of walk_of same_bytes same_texts closed fails_c fault found strict_of
 all = 0
 
 -- the letters are their ASCII bytes

@@ -1,5 +1,5 @@
 -- The rules of the strict check (document 01, "Strict check"), for a node of a well-formed store in its place.
-use Rattle.std.specs.Prelude.{Bool, true, false, cond, not, ◌&&◌, List, [], ◌∷◌, ℕ, zero, suc, ◌+◌, ◌-◌, ◌*◌, ◌^◌, ◌<◌, eqb, ltb}
+use Rattle.std.specs.Prelude.{Option, Some, None, Bool, true, false, cond, not, ◌&&◌, List, [], ◌∷◌, ℕ, zero, suc, ◌+◌, ◌-◌, ◌*◌, ◌^◌, ◌<◌, eqb, ltb}
 use Rattle.kinds.specs.Kinds.{kind_line_string, kind_polygon, kind_geometry_collection, width}
 use Rattle.nodes.specs.declared.Visit.{Visit}
 use Rattle.shape.specs.Numbers.{text_at}
@@ -65,12 +65,12 @@ abbrev pub fails_d : Visit → Bool
 fails_d v = eqb v.parent.kind kind_geometry_collection && not (eqb v.dimension v.parent.dimension)
 
 -- "Several at one node: lowest letter."
-unfoldable pub fault : List ℕ → List ℕ → Visit → ℕ
+unfoldable pub fault : List ℕ → List ℕ → Visit → Option ℕ
 fault text numbers v =
-    cond (fails_a v) letter_a
-    (cond (fails_b v) letter_b
-    (cond (fails_c text numbers v) letter_c
-    (cond (fails_d v) letter_d no_letter)))
+    cond (fails_a v) (Some letter_a)
+    (cond (fails_b v) (Some letter_b)
+    (cond (fails_c text numbers v) (Some letter_c)
+    (cond (fails_d v) (Some letter_d) None)))
 
 -- ---- what private functions ask
 -- n indexes from each of the two fit

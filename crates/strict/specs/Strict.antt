@@ -1,10 +1,13 @@
 -- What the strict check answers for any store (document 01, "Strict check" and "Refusal numbers").
-use Rattle.std.specs.Prelude.{cond, List, [], ◌∷◌, ℕ, eqb}
-use Rattle.std.proofs.Math.Option.{Option, none, some}
+use Rattle.std.specs.Prelude.{Option, Some, None, List, [], ◌∷◌, ℕ}
+use Rattle.std.proofs.Math.Option as maybe
+use Rattle.std.proofs.Math.Option.{none, some}
 use Rattle.refusals.specs.Refusals.{ill_formed_store}
+use Rattle.nodes.specs.declared.Visit.{Visit}
 use Rattle.nodes.specs.declared.Met.{Met}
 use Rattle.nodes.specs.declared.Met.TheVariants.{Node, End, Done, Ill}
 use Rattle.shape.specs.Store.{walk_of}
+use Rattle.strict.specs.declared.Fault.{Fault}
 use Rattle.strict.specs.declared.StrictAnswer.{StrictAnswer}
 use Rattle.strict.specs.Rules.{no_letter, fault}
 
@@ -12,20 +15,34 @@ use Rattle.strict.specs.Rules.{no_letter, fault}
 abbrev pub answer : ℕ → ℕ → ℕ → StrictAnswer
 answer number letter row = record { number = number; letter = letter; row = row }
 
--- "First failing rule in node order, with number 0"; "A, B and C belong to the line string's own row, D to the child's."
-unfoldable pub first_fault : List ℕ → List ℕ → List Met → StrictAnswer
-first_fault text numbers [] = answer 0 no_letter 0
-first_fault text numbers (Node v ∷ ms) = cond (eqb (fault text numbers v) no_letter) (first_fault text numbers ms) (answer 0 (fault text numbers v) v.row)
-first_fault text numbers (End i n ∷ ms) = first_fault text numbers ms
-first_fault text numbers (Done ∷ ms) = first_fault text numbers ms
-first_fault text numbers (Ill ∷ ms) = first_fault text numbers ms
+-- a letter of a node's own row
+abbrev pub fault_at : Visit → Option ℕ → Option Fault
+fault_at v None = None
+fault_at v (Some letter) = Some (record { letter = letter; row = v.row })
 
 -- the first fault of some things, or else that of others
-abbrev pub or_else : StrictAnswer → StrictAnswer → StrictAnswer
-or_else a b = cond (eqb a.letter no_letter) b a
+abbrev pub or_else : Option Fault → Option Fault → Option Fault
+or_else None b = b
+or_else (Some f) b = Some f
+
+-- "First failing rule in node order"; "A, B and C belong to the line string's own row, D to the child's."
+unfoldable pub found : List ℕ → List ℕ → List Met → Option Fault
+found text numbers [] = None
+found text numbers (Node v ∷ ms) = or_else (fault_at v (fault text numbers v)) (found text numbers ms)
+found text numbers (End i n ∷ ms) = found text numbers ms
+found text numbers (Done ∷ ms) = found text numbers ms
+found text numbers (Ill ∷ ms) = found text numbers ms
+
+-- "with number 0"
+abbrev pub told : Option Fault → StrictAnswer
+told None = answer 0 no_letter 0
+told (Some f) = answer 0 f.letter f.row
+
+abbrev pub first_fault : List ℕ → List ℕ → List Met → StrictAnswer
+first_fault text numbers ms = told (found text numbers ms)
 
 -- "22 [..] store ill formed [..] letter and row 0"
-abbrev pub of_walk : List ℕ → List ℕ → Option (List Met) → StrictAnswer
+abbrev pub of_walk : List ℕ → List ℕ → maybe.Option (List Met) → StrictAnswer
 of_walk text numbers none = answer ill_formed_store no_letter 0
 of_walk text numbers (some ms) = first_fault text numbers ms
 

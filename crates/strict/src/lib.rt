@@ -1,14 +1,13 @@
 // The strict check: rules A to D over the nodes of a well-formed store.
 #![tactic(auto)]
 
-ghost use Rattle.std.specs.Prelude.{◌≡◌, [], ◌∷◌};
+ghost use Rattle.std.specs.Prelude.{◌≡◌};
 ghost use Rattle.refusals.specs.Refusals.{ill_formed_store};
 ghost use Rattle.store.specs.Rows.{number_room};
-ghost use Rattle.nodes.specs.declared.Met.TheVariants.{Node};
 ghost use Rattle.walk.specs.Walk.{CoordinatesIn, NumbersIn};
 ghost use Rattle.shape.specs.Walk.{whole_walk};
 ghost use Rattle.strict.specs.Rules.{no_letter, same_texts, is_ring, is_short, fails_a, fails_b, fails_c, fails_d, closed, fault, BothFit};
-ghost use Rattle.strict.specs.Strict.{answer, first_fault, or_else, of_walk, strict_of};
+ghost use Rattle.strict.specs.Strict.{answer, fault_at, or_else, told, of_walk, strict_of};
 
 use kinds::{KIND_GEOMETRYCOLLECTION, KIND_LINESTRING, KIND_POLYGON};
 use nodes::{Met, Visit};
@@ -26,6 +25,13 @@ pub struct StrictAnswer {
     pub number: u32,
     pub letter: u8,
     pub row: usize,
+}
+
+// A rule that fails, by its letter, and the row of the node that it belongs to.
+#[derive(Clone, Copy)]
+struct Fault {
+    letter: u8,
+    row: usize,
 }
 
 // Whether `width` numbers from `first` on have the texts of those from `last` on.
@@ -96,46 +102,53 @@ fn fails_d(v: Visit) -> bool
     (v.parent.kind == KIND_GEOMETRYCOLLECTION) & (v.dimension != v.parent.dimension)
 }
 
-// The lowest letter of the rules that a node fails, or 0.
-fn fault_of(text: &[u8], numbers: &[u32], v: Visit) -> u8
+// The lowest letter of the rules that a node fails.
+fn fault_of(text: &[u8], numbers: &[u32], v: Visit) -> Option<u8>
     requires { NumbersIn (number_room numbers.now) v }
     ensures { result ≡ fault text.now numbers.now v }
 {
     if fails_a(v) {
-        return b'A';
+        return Some(b'A');
     }
     if fails_b(v) {
-        return b'B';
+        return Some(b'B');
     }
     if fails_c(text, numbers, v) {
-        return b'C';
+        return Some(b'C');
     }
     if fails_d(v) {
-        return b'D';
+        return Some(b'D');
     }
-    0
+    None
 }
 
 // The first fault of the nodes so far, or else that of one more node.
-fn or_fault(text: &[u8], numbers: &[u32], found: StrictAnswer, v: Visit) -> StrictAnswer
+fn or_fault(text: &[u8], numbers: &[u32], found: Option<Fault>, v: Visit) -> Option<Fault>
     requires { NumbersIn (number_room numbers.now) v }
-    ensures { result ≡ or_else found (first_fault text.now numbers.now (Node v ∷ [])) }
+    ensures { result ≡ or_else found (fault_at v (fault text.now numbers.now v)) }
 {
-    if found.letter != 0 {
+    if found.is_some() {
         return found;
     }
-    let letter = fault_of(text, numbers, v);
-    if letter != 0 {
-        return StrictAnswer {
+    let letter = fault_of(text, numbers, v)?;
+    Some(Fault { letter, row: v.row })
+}
+
+// The answer for a well-formed store.
+fn told(found: Option<Fault>) -> StrictAnswer
+    ensures { result ≡ told found }
+{
+    match found {
+        Some(f) => StrictAnswer {
             number: 0,
-            letter,
-            row: v.row,
-        };
-    }
-    StrictAnswer {
-        number: 0,
-        letter: 0,
-        row: 0,
+            letter: f.letter,
+            row: f.row,
+        },
+        None => StrictAnswer {
+            number: 0,
+            letter: 0,
+            row: 0,
+        },
     }
 }
 
@@ -157,11 +170,7 @@ fn first_fault(text: &[u8], nodes: &[u32], numbers: &[u32]) -> StrictAnswer
     let count = store::number_room(numbers);
     let mut frames = [ABOVE; FRAMES];
     let mut w = walk::start(&mut frames);
-    let mut found = StrictAnswer {
-        number: 0,
-        letter: 0,
-        row: 0,
-    };
+    let mut found = None;
     loop {
         let s = walk::step(nodes, count, &mut frames, w);
         let met = s.met;
@@ -174,7 +183,7 @@ fn first_fault(text: &[u8], nodes: &[u32], numbers: &[u32]) -> StrictAnswer
                 w = s.next;
             }
             Met::Done => {
-                return found;
+                return told(found);
             }
             Met::Ill => {
                 return ill_formed();

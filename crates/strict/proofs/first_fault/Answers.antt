@@ -6,12 +6,12 @@ use Rattle.nodes.specs.Nodes.{above}
 use Rattle.walk.specs.Walk.{frames}
 use Rattle.shape.specs.Walk.{whole_walk}
 use Rattle.shape.proofs.Loops.{begin, forward, turn, done, ill}
-use Rattle.strict.specs.Strict.{first_fault, of_walk}
+use Rattle.strict.specs.Strict.{found, told, of_walk}
 use Rattle.strict.proofs.Faults.{fault_on, fault_end}
 use Rattle.strict.proofs.first_fault.Goals as goal
 
 pub loop-v-init : goal.loop-v-init
-unfolding first_fault
+unfolding found
 loop-v-init c = begin _ _ _ (length-replicate {A = Frame} frames above) c.start-w.ensures refl
 
 pub or_fault-found-requires : goal.or_fault-found-requires
@@ -30,7 +30,7 @@ pub loop-v-preserved : goal.loop-v-preserved
 loop-v-preserved c = turn c.loop-v.invariant c.step-s.ensures c.in-End.is tt (λ ms e. e ∙ sym (fault_end _ _ ms _ _))
 
 pub returns-in-Done : goal.returns-in-Done
-returns-in-Done c = c.loop-v.invariant.holds ∙ sym (ap (of_walk _ _) (ap (whole_walk _) (sym c.number_room-count.ensures) ∙ done c.loop-v.invariant c.step-s.ensures c.in-Done.is))
+returns-in-Done c = c.told.ensures ∙ ap told c.loop-v.invariant.holds ∙ sym (ap (of_walk _ _) (ap (whole_walk _) (sym c.number_room-count.ensures) ∙ done c.loop-v.invariant c.step-s.ensures c.in-Done.is))
 
 pub returns-in-Ill : goal.returns-in-Ill
 returns-in-Ill c = c.ill_formed.ensures ∙ sym (ap (of_walk _ _) (ap (whole_walk _) (sym c.number_room-count.ensures) ∙ ill c.loop-v.invariant c.step-s.ensures c.in-Ill.is))
