@@ -7,6 +7,7 @@ ghost use Rattle.tokenizer.specs.Tokens.{cursor_at, take_at, hold, look_at, is_n
 use token::{Found, Token, read_at};
 
 // What was looked at and not yet taken.
+// Kept (1): 01-scope.md, "The form each place takes": "The cursor struct holds an enum: nothing held, no token, bad number with place, or a token with its span".
 #[derive(Clone, Copy)]
 pub enum Held {
     Nothing,
@@ -48,13 +49,15 @@ pub struct PassedOpen {
 }
 
 // What was found, as what is held.
-fn held_of(found: Found) -> Held
-    ensures { result ≡ hold found }
-{
-    match found {
-        Found::NoToken(p) => Held::NoToken(p),
-        Found::BadNumber(p) => Held::BadNumber(p),
-        Found::Is(p, token) => Held::Is(p, token),
+impl From<Found> for Held {
+    ghost from_gives = { λ found held. held ≡ hold found };
+
+    fn from(found: Found) -> Held {
+        match found {
+            Found::NoToken(p) => Held::NoToken(p),
+            Found::BadNumber(p) => Held::BadNumber(p),
+            Found::Is(p, token) => Held::Is(p, token),
+        }
     }
 }
 
@@ -134,7 +137,7 @@ impl Cursor {
             found: step.found,
             next: Cursor {
                 at: step.next.at,
-                held: held_of(step.found),
+                held: Held::from(step.found),
             },
         }
     }
