@@ -3,7 +3,6 @@
 
 ghost use Rattle.std.specs.Prelude.{◌≡◌, ◌≤◌, length as size, take};
 ghost use Rattle.scan.specs.Front.{begins};
-ghost use Rattle.names.specs.Letters.{is_letter};
 ghost use Rattle.canonical_text.specs.Canonical.{needs_plus};
 ghost use Rattle.shape.specs.Numbers.{text_at};
 ghost use Rattle.pen.specs.Pen.{Puts};
@@ -14,26 +13,14 @@ use names::{ENDING_COUNT, ENDING_LENGTHS, ENDINGS, NAME_COUNT, NAME_LENGTHS, NAM
 use nodes::Visit;
 use pen::Pen;
 
-// An ASCII letter.
-fn is_letter(b: u8) -> bool
-    ensures { result ≡ is_letter b }
-{
-    let upper = words::to_upper(b);
-    (b'A' <= upper) & (upper <= b'Z')
-}
-
 // Whether a number's text begins with `+` or a letter: read without one more `+`, it would lose the one or be a word.
 fn needs_plus(w: &[u8]) -> bool
     ensures { result ≡ begins needs_plus w.now }
 {
-    if w.len() == 0 {
-        return false;
+    match w.first() {
+        Some(b) => (*b == b'+') | b.is_ascii_alphabetic(),
+        None => false,
     }
-    let b = w[0];
-    if b < b'A' {
-        return b == b'+';
-    }
-    is_letter(b)
 }
 
 // A number, after the byte `lead`.

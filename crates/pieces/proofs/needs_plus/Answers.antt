@@ -1,13 +1,12 @@
--- `pieces::needs_plus` meets its contract: by whether the first byte lies before the letters.
-use mathlib.Core.Path.{◌∙◌}
-use Rattle.pieces.proofs.Canonical.{plus_none, plus_low, plus_high}
+-- `pieces::needs_plus` meets its contract: by the first byte, or that there is none.
+use native.Mathlib.Omega.{arith}
+use Rattle.pieces.proofs.Canonical.{plus_first, plus_none}
 use Rattle.pieces.proofs.needs_plus.Goals as goal
 
-pub returns-then-w-eq0 : goal.returns-then-w-eq0
-returns-then-w-eq0 c = plus_none _ c.if-w-eq0.true
+pub returns-in-Some : goal.returns-in-Some
+returns-in-Some c =
+    let first = c.in-Some.ensures.item.3 in
+    rw c.is_ascii_alphabetic.ensures.value (plus_first c.args.w.now _ first.0 (first.1 0) (omega (arith, first.1 0, c.type_inv.w 0)))
 
-pub returns-then-b-lt65 : goal.returns-then-b-lt65
-returns-then-b-lt65 c = plus_low _ c.if-w-eq0.false c.if-b-lt65.true
-
-pub returns : goal.returns
-returns c = c.is_letter.ensures ∙ plus_high _ c.if-w-eq0.false c.if-b-lt65.false
+pub returns-in-None : goal.returns-in-None
+returns-in-None c = plus_none _ c.in-None.ensures.value
