@@ -28,6 +28,8 @@ fn too_deep(place: usize, s: Spot) -> Result<Spot, Unread>
 }
 
 // A collection whose `(` was taken at `place`; with this one `depth` more may be opened.
+// Kept (2): the loop is that of `parts::by_commas`, but its children are geometries, which are given a depth: "Two parsing
+// functions call each other" (document 01), and no trait stands between them.
 #[cycle(geometry_collection)]
 pub(crate) fn collection(
     text: &[u8],
