@@ -57,6 +57,7 @@ fn put_name(out: &mut [u8], p: Pen, kind: u32) -> Pen
 }
 
 // A blank and the ending, if the dimension has one: the table's first has no letters.
+// Kept (2): one function for this and `put_name` would take the table, its lengths, the first row and the first row's number as parameters.
 fn put_dimension(out: &mut [u8], p: Pen, dimension: u32) -> Pen
     ensures { PutsEach (dimension_pieces dimension) p out.old result out.new }
 {
