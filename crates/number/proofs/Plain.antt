@@ -5,10 +5,8 @@ use mathlib.Core.Bool.{Bool, true, false, cond, ◌||◌, ◌&&◌, or-true, and
 use mathlib.Core.List.{List, [], ◌∷◌, ◌++◌}
 use Prim.Native.Nat.{ℕ, suc, ◌+◌, ◌≤◌, ◌<◌}
 use native.Mathlib.Omega.{arith}
-use native.Mathlib.Numerals.{add-one}
 use lib.Dec.{leb, ltb}
-use lib.ListN.{length, get_or, take, drop, length-drop}
-use lib.Seq.{take-suc, get_or-drop}
+use lib.ListN.{length, get_or}
 use borrow.Author.Tests.{leb-true, ltb-true, ltb-false, lt-ltb, le-ltb, lt-leb, le-leb, eq-eqb, ne_eqb}
 use Rattle.lists.specs.Lists.{every}
 use Rattle.scan.specs.Bytes.{is_digit, is_sign, is_point, point}
@@ -27,7 +25,7 @@ plain_lexeme w e =
     let both = (and-eq-true_iff (has_digit bare) (is_nil (after_all is_digit (after_whole bare)))).0 e in
     rw (both.0, nil_is (after_all is_digit (after_whole bare)) both.1) (or-true (is_named bare))
 
--- ---- digits told four at a time
+-- ---- a test of two lists in a row
 pub every_append : {A : Type 0} (p : A → Bool) (x y : List A) → every p (x ++ y) ≡ (every p x && every p y)
 unfolding every
 every_append p [] y = refl
@@ -36,25 +34,6 @@ every_append p (a ∷ x) y = go (p a) (every_append p x y)
     go : (t : Bool) → every p (x ++ y) ≡ (every p x && every p y) → (t && every p (x ++ y)) ≡ ((t && every p x) && every p y)
     go true e = e
     go false e = refl
-
--- the loop over four bytes: whether the first i of them are digits
-pub record ToldSoFar (w : List ℕ) (at i : ℕ) (all : Bool) : Type 0 where
-  pub within : i ≤ 4
-  pub told : all ≡ every is_digit (take i (drop at w))
-
-pub none_told : (w : List ℕ) (at : ℕ) → ToldSoFar w at 0 true
-unfolding every
-none_told w at = record { within = omega arith; told = refl }
-
-module _ {w : List ℕ} {at i : ℕ} {all : Bool} (h : ToldSoFar w at i all) where
-  pub one_told : {next : Bool} → at + 4 ≤ length w → i < 4 → next ≡ is_digit (get_or w (at + i) 0) → ToldSoFar w at (i + 1) (all && next)
-  unfolding every
-  one_told inside l n =
-      let in_rest : i < length (drop at w) = omega (arith, length-drop at w) in
-      record { within = omega arith; told = rw (add-one i, take-suc (drop at w) i 0 in_rest, every_append is_digit (take i (drop at w)) (get_or (drop at w) i 0 ∷ []), get_or-drop at w i 0, h.told, n, and-true (is_digit (get_or w (at + i) 0))) }
-
-  pub four_told : 4 ≤ i → all ≡ every is_digit (take 4 (drop at w))
-  four_told l = let e : i ≡ 4 = omega (arith, h.within) in rw e at h.told
 
 -- ---- one pass
 -- what a pass over the bytes that are left comes to, where so many points and so many other bytes than digits were met, of n bytes in all;
