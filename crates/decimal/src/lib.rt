@@ -36,6 +36,7 @@ const SIZE_HELD: u64 = 100000000000000001;
 const FEW_DIGITS: usize = 10;
 
 // Digits: what the first of them say, how many follow that are not kept, whether one of those isn't 0, and where they end.
+// Kept (1): whether something is left over counts beside every value, here and in a size: there is no case without one.
 #[derive(Clone, Copy)]
 struct Kept {
     value: u64,

@@ -217,6 +217,7 @@ fn fill(text: &[u8], nodes: &[u32], numbers: &[u32], table: &mut [i64]) -> BoxAn
         number: 0,
         place: 0,
     };
+    // Kept (3): what is met next stands in the step that the walk answers, which takes the lent frames anew at each turn.
     loop {
         let s = walk::step(nodes, count, &mut frames, w);
         let met = s.met;

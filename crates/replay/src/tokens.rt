@@ -21,6 +21,7 @@ pub(crate) enum Asking {
 }
 
 // What was taken, whether each look before saw the same, and the cursor to go on with.
+// Kept (1): all three count in both cases.
 #[derive(Clone, Copy)]
 struct Asked {
     found: Found,

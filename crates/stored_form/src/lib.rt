@@ -43,6 +43,7 @@ pub struct Refusal {
 }
 
 // What a run of whole fields comes to: whether what they hold is well formed, and the place after them.
+// Kept (1): the place counts in both cases: what stands there is looked at before rows that are no tree are refused.
 #[derive(Clone, Copy)]
 pub struct Seen {
     pub well: bool,

@@ -171,6 +171,7 @@ fn first_fault(text: &[u8], nodes: &[u32], numbers: &[u32]) -> StrictAnswer
     let mut frames = [ABOVE; FRAMES];
     let mut w = walk::start(&mut frames);
     let mut found = None;
+    // Kept (3): what is met next stands in the step that the walk answers, which takes the lent frames anew at each turn.
     loop {
         let s = walk::step(nodes, count, &mut frames, w);
         let met = s.met;

@@ -35,6 +35,7 @@ pub(crate) fn by_commas<P: ByCommas>(
 {
     let mut here = s;
     let mut parts: u32 = 0;
+    // Kept (3): the parts end where no comma follows, so there is no range to count.
     loop {
         // Kept (1): `after_refusal` of all that was read, with `?`, copies it for each part: 10.9 instructions a byte where this
         // takes 10.4, on polygons, and more on shorter numbers.
