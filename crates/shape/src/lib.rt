@@ -54,10 +54,9 @@ pub fn is_number_at(text: &[u8], numbers: &[u32], i: usize) -> bool
 {
     let start = store::start_at(numbers, i) as usize;
     let end = start + (store::length_at(numbers, i) as usize);
-    if text.len() < end {
+    let Some(w) = text.get(start..end) else {
         return false;
-    }
-    let w = &text[start..end];
+    };
     number::is_plain(w) || number::is_lexeme(w)
 }
 
