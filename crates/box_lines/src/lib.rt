@@ -7,12 +7,11 @@
 //   2 1 -
 #![tactic(auto)]
 
-ghost use Rattle.std.specs.Prelude.{◌≡◌};
-ghost use Rattle.printing.specs.Printing.{buffer, put_all_in};
+ghost use Rattle.printing.specs.Printing.{Prints};
 ghost use Rattle.box_lines.specs.Lines.{heading, pair, box_text, row_line, box_lines};
 
 use bounds::BOX_WIDTH;
-use printing::{least, put, put_number, put_spaced};
+use printing::Out;
 use signed_lines::numbers::{put_spaced_units, size_of};
 use signed_lines::places::number_at;
 
@@ -25,52 +24,49 @@ const BOTTOM: usize = 3;
 
 const TOP: usize = 4;
 
-fn put_heading(out: &mut [u8], at: usize, row: usize, kind: u32) -> usize
-    ensures { buffer out.new result ≡ put_all_in (heading row kind) (buffer out.old at) }
+fn put_heading(out: &mut Out, row: usize, kind: u32)
+    ensures { Prints (heading row kind) out.old out.new }
 {
-    let end = put_number(out, at, row);
-    put_spaced(out, end, kind as usize)
+    out.put_number(row);
+    out.put_spaced(kind as usize);
 }
 
 // A low and a high side.
-fn put_pair(out: &mut [u8], at: usize, low: i64, high: i64) -> usize
-    ensures { buffer out.new result ≡ put_all_in (pair low high) (buffer out.old at) }
+fn put_pair(out: &mut Out, low: i64, high: i64)
+    ensures { Prints (pair low high) out.old out.new }
 {
-    let end = put_spaced_units(out, at, low);
-    put_spaced_units(out, end, high)
+    put_spaced_units(out, low);
+    put_spaced_units(out, high);
 }
 
 // What a row of the table says, which stands at the front.
-fn put_box(out: &mut [u8], at: usize, rows: &[i64]) -> usize
-    ensures { buffer out.new result ≡ put_all_in (box_text rows.now) (buffer out.old at) }
+fn put_box(out: &mut Out, rows: &[i64])
+    ensures { Prints (box_text rows.now) out.old out.new }
 {
     if size_of(number_at(rows, 0)) == 0 {
-        return put(out, at, b" -");
+        out.put(b" -");
+    } else {
+        put_pair(out, number_at(rows, LEFT), number_at(rows, RIGHT));
+        put_pair(out, number_at(rows, BOTTOM), number_at(rows, TOP));
     }
-    let end = put_pair(out, at, number_at(rows, LEFT), number_at(rows, RIGHT));
-    put_pair(out, end, number_at(rows, BOTTOM), number_at(rows, TOP))
 }
 
 // The line of a node.
-fn put_row(out: &mut [u8], at: usize, row: usize, kind: u32, rows: &[i64]) -> usize
-    ensures { buffer out.new result ≡ put_all_in (row_line row kind rows.now) (buffer out.old at) }
+fn put_row(out: &mut Out, row: usize, kind: u32, rows: &[i64])
+    ensures { Prints (row_line row kind rows.now) out.old out.new }
 {
-    let end = put_heading(out, at, row, kind);
-    let end = put_box(out, end, rows);
-    put(out, end, b"\n")
+    put_heading(out, row, kind);
+    put_box(out, rows);
+    out.put(b"\n");
 }
 
 // The lines of so many nodes, or of as many as the table has rows.
-pub fn put_boxes(out: &mut [u8], at: usize, nodes: &[u32], table: &[i64], rows: usize) -> usize
-    ensures { buffer out.new result ≡ put_all_in (box_lines nodes.now table.now rows) (buffer out.old at) }
+pub fn put_boxes(out: &mut Out, nodes: &[u32], table: &[i64], rows: usize)
+    ensures { Prints (box_lines nodes.now table.now rows) out.old out.new }
 {
-    let last = least(rows, table.len() / BOX_WIDTH);
-    let mut end = at;
-    let mut row = 0;
-    while row < last {
+    let last = rows.min(table.len() / BOX_WIDTH);
+    for row in 0..last {
         let from = row * BOX_WIDTH;
-        end = put_row(out, end, row, store::kind_at(nodes, row), &table[from..]);
-        row += 1;
+        put_row(out, row, store::kind_at(nodes, row), &table[from..]);
     }
-    end
 }

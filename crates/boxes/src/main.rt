@@ -10,7 +10,7 @@ use console::{
     INPUT_BYTES, NODE_PLACES, NODE_ROWS, NUMBER_PLACES, is_over, put_refusal, put_too_long,
     read_input,
 };
-use printing::flush;
+use printing::Out;
 use store::ReadAnswer;
 
 // A row for each node that there is room for.
@@ -20,13 +20,13 @@ const OUTPUT_BYTES: usize = 65_536;
 
 // The boxes of the rows that were read.
 fn put_told(
-    out: &mut [u8],
+    out: &mut Out,
     text: &[u8],
     nodes: &[u32],
     numbers: &[u32],
     read: ReadAnswer,
     table: &mut [i64],
-) -> usize {
+) {
     let node_places = store::node_places(nodes, read.nodes);
     let number_places = store::number_places(numbers, read.numbers);
     let answer = node_boxes::boxes(
@@ -35,40 +35,37 @@ fn put_told(
         &numbers[0..number_places],
         table,
     );
-    if answer.number != 0 {
-        return put_refusal(out, 0, answer.number, answer.place, b"\n");
+    if answer.number == 0 {
+        put_boxes(out, nodes, table, read.nodes);
+    } else {
+        put_refusal(out, answer.number, answer.place, b"\n");
     }
-    put_boxes(out, 0, nodes, table, read.nodes)
+}
+
+fn put_read(out: &mut Out, text: &[u8], nodes: &mut [u32], numbers: &mut [u32], table: &mut [i64]) {
+    if is_over(text) {
+        put_too_long(out);
+        return;
+    }
+    let read = wkt::read(text, nodes, numbers);
+    if read.number == 0 {
+        put_told(out, text, nodes, numbers, read, table);
+    } else {
+        put_refusal(out, read.number, read.place, b"\n");
+    }
 }
 
 // The buffers come as arrays, whose types tell their lengths.
-fn put_read(
-    text: &[u8],
-    nodes: &mut [u32; NODE_PLACES],
-    numbers: &mut [u32; NUMBER_PLACES],
-    table: &mut [i64; TABLE_PLACES],
-    out: &mut [u8; OUTPUT_BYTES],
-) -> usize {
-    let read = wkt::read(text, nodes, numbers);
-    if read.number != 0 {
-        return put_refusal(out, 0, read.number, read.place, b"\n");
-    }
-    put_told(out, text, nodes, numbers, read, table)
-}
-
 fn print_boxes(
     text: &[u8],
     nodes: &mut [u32; NODE_PLACES],
     numbers: &mut [u32; NUMBER_PLACES],
     table: &mut [i64; TABLE_PLACES],
-    out: &mut [u8; OUTPUT_BYTES],
+    bytes: &mut [u8; OUTPUT_BYTES],
 ) {
-    let end = if is_over(text) {
-        put_too_long(out, 0)
-    } else {
-        put_read(text, nodes, numbers, table, out)
-    };
-    flush(out, end);
+    let mut out = Out::new(bytes);
+    put_read(&mut out, text, nodes, numbers, table);
+    out.flush();
 }
 
 fn main() {
@@ -76,13 +73,13 @@ fn main() {
     let mut nodes = [0u32; NODE_PLACES];
     let mut numbers = [0u32; NUMBER_PLACES];
     let mut table = [0i64; TABLE_PLACES];
-    let mut out = [0u8; OUTPUT_BYTES];
+    let mut bytes = [0u8; OUTPUT_BYTES];
     let count = read_input(&mut input);
     print_boxes(
         &input[..count],
         &mut nodes,
         &mut numbers,
         &mut table,
-        &mut out,
+        &mut bytes,
     );
 }

@@ -2,12 +2,12 @@
 // numbers of records.
 #![tactic(auto)]
 
-ghost use Rattle.std.specs.Prelude.{◌≡◌, ◌+◌, ◌*◌, ◌≤◌, length};
+ghost use Rattle.std.specs.Prelude.{◌≡◌, length};
 ghost use Rattle.io.specs.Counts.{IsPrefixLen};
-ghost use Rattle.printing.specs.Printing.{buffer, put_all_in};
+ghost use Rattle.printing.specs.Printing.{Prints};
 ghost use Rattle.console.specs.Console.{is_over_input, room_for_nodes, room_for_numbers, counts_line, refusal_line, too_long_line, u32_at};
 
-use printing::{STDIN_FILENO, put, put_spaced};
+use printing::{Out, STDIN_FILENO};
 use refusals::TEXT_TOO_LONG;
 use store::{NODE_WIDTH, NUMBER_WIDTH};
 
@@ -53,56 +53,31 @@ pub fn read_input(input: &mut [u8; INPUT_BYTES]) -> usize
 }
 
 // Puts a name, two numbers, each after a space, and what ends the line.
-pub fn put_line(
-    out: &mut [u8],
-    at: usize,
-    name: &[u8],
-    first: usize,
-    second: usize,
-    end: &[u8],
-) -> usize
-    ensures { buffer out.new result ≡ put_all_in (counts_line name.now first second end.now) (buffer out.old at) }
+pub fn put_line(out: &mut Out, name: &[u8], first: usize, second: usize, end: &[u8])
+    ensures { Prints (counts_line name.now first second end.now) out.old out.new }
 {
-    let named = put(out, at, name);
-    let one = put_spaced(out, named, first);
-    let two = put_spaced(out, one, second);
-    put(out, two, end)
+    out.put(name);
+    out.put_spaced(first);
+    out.put_spaced(second);
+    out.put(end);
 }
 
 // Puts a refusal's number and place, as `refused 13 8`, and what ends the line.
-pub fn put_refusal(out: &mut [u8], at: usize, number: u32, place: usize, end: &[u8]) -> usize
-    ensures { buffer out.new result ≡ put_all_in (refusal_line number place end.now) (buffer out.old at) }
+pub fn put_refusal(out: &mut Out, number: u32, place: usize, end: &[u8])
+    ensures { Prints (refusal_line number place end.now) out.old out.new }
 {
-    put_line(out, at, b"refused", number as usize, place, end)
+    put_line(out, b"refused", number as usize, place, end);
 }
 
 // Puts the line of a text that is longer than a program reads.
-pub fn put_too_long(out: &mut [u8], at: usize) -> usize
-    ensures { buffer out.new result ≡ put_all_in too_long_line (buffer out.old at) }
+pub fn put_too_long(out: &mut Out)
+    ensures { Prints too_long_line out.old out.new }
 {
-    put_refusal(out, at, TEXT_TOO_LONG, INPUT_LIMIT, b"\n")
+    put_refusal(out, TEXT_TOO_LONG, INPUT_LIMIT, b"\n");
 }
 
 // How many bytes a number of a record has.
 pub const U32_BYTES: usize = 4;
-
-const BYTE: u32 = 256;
-
-const TWO_BYTES: u32 = 65_536;
-
-fn wide(b: u8) -> u32
-    ensures value { result ≡ b }
-    ensures upper_bound { result ≤ 255 }
-{
-    b as u32
-}
-
-fn both(low: u8, high: u8) -> u32
-    ensures value { result ≡ low + high * 256 }
-    ensures upper_bound { result ≤ 65535 }
-{
-    wide(low) + wide(high) * BYTE
-}
 
 // The u32 that stands at a place, its lowest byte first; 0 where it isn't there whole.
 pub fn u32_at(bytes: &[u8], at: usize) -> u32
@@ -114,5 +89,5 @@ pub fn u32_at(bytes: &[u8], at: usize) -> u32
     if bytes.len() - U32_BYTES < at {
         return 0;
     }
-    both(bytes[at], bytes[at + 1]) + both(bytes[at + 2], bytes[at + 3]) * TWO_BYTES
+    u32::from_le_bytes([bytes[at], bytes[at + 1], bytes[at + 2], bytes[at + 3]])
 }

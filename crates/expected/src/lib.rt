@@ -43,15 +43,12 @@ fn run_start(text: &[u8], place: usize) -> usize
     if text.len() < place {
         return place;
     }
-    let mut i = place;
-    while 0 < i {
-        let before = i - 1;
-        if is_stop(text[before]) {
-            return i;
+    for i in (0..place).rev() {
+        if is_stop(text[i]) {
+            return i + 1;
         }
-        i = before;
     }
-    i
+    0
 }
 
 // What was expected of the number that goes wrong at `place`: a token begins behind a stop, so the place is enough to find it again.

@@ -11,7 +11,9 @@ use borrow.Author.Tests.{ltb-true, lt-ltb, le-ltb, ne_eqb}
 use Rattle.scan.specs.Front.{part}
 use Rattle.scan.proofs.Runs.{not_before}
 use Rattle.utf8.specs.Utf8.{first_ill}
-use Rattle.printing.specs.Printing.{Buffer, put_in, put_all_in}
+use Rattle.printing.specs.declared.Out.{Out}
+use Rattle.printing.specs.Printing.{Prints}
+use Rattle.printing.proofs.Buffers.{prints_none, prints_then}
 use Rattle.line_places.specs.Lines.{goes_on}
 use Rattle.explain.specs.declared.characters.Shown.{Shown}
 use Rattle.explain.specs.declared.characters.Shown.TheVariants.{Mark, Blank, Tab, WideBlank, Itself}
@@ -91,20 +93,19 @@ module _ (u : Bool) (l : List ℕ) (i : ℕ) where
       let e : length l - i ≡ suc (length l - (i + 1)) = omega arith in
       rw (e, lt-ltb i (length l) h) (ap (λ (ps : List (List ℕ)). piece_at u l i ∷ ps) (bounds (length l - (i + 1)) (length l - end_from l i) u l (end_from l i) (omega arith) (omega arith)))
 
-  -- none is put yet
-  pub part_start : (b : Buffer) → put_all_in (pieces_from (length l - 0) u l i) b ≡ put_all_in (pieces_from (length l) u l i) b
-  part_start b =
+  -- what a loop still has to put from a place on: with that, all is put
+  pub part_start : {a b : Out} → Prints (pieces_from (length l - 0) u l i) a b → Prints (pieces_from (length l) u l i) a b
+  part_start p =
       let e : length l - 0 ≡ length l = omega arith in
-      rw e
+      rw e at p
 
   -- a character is put
-  pub part_on : (b : Buffer) {b₁ g : Buffer} {next : ℕ} {s : Shown} → i < length l → next ≡ end_from l i → s ≡ shown_for u (part l i next) → b₁ ≡ put_in (piece_of s (part l i next)) b → put_all_in (pieces_from (length l - i) u l i) b ≡ g → put_all_in (pieces_from (length l - next) u l next) b₁ ≡ g
-  unfolding put_all_in
-  part_on b h e f x y = rw (x, f, e) (rw (first_piece h) at y)
+  pub part_on : {a b c : Out} {next : ℕ} {s : Shown} → i < length l → next ≡ end_from l i → s ≡ shown_for u (part l i next) → Prints (piece_of s (part l i next) ∷ []) a b → Prints (pieces_from (length l - next) u l next) b c → Prints (pieces_from (length l - i) u l i) a c
+  part_on h e f x p = rw (first_piece h) (prints_then (rw (f, e) at x) (rw e at p))
 
   -- none is left
-  pub part_end : (b : Buffer) {g : Buffer} → length l ≤ i → put_all_in (pieces_from (length l - i) u l i) b ≡ g → b ≡ g
-  unfolding put_all_in pieces_from
-  part_end b h y =
+  pub part_end : (a : Out) → length l ≤ i → Prints (pieces_from (length l - i) u l i) a a
+  unfolding pieces_from
+  part_end a h =
       let e : length l - i ≡ 0 = omega arith in
-      rw e at y
+      rw e (prints_none a)

@@ -1,10 +1,10 @@
 // A line's characters, as they are shown on a terminal, and the blanks that stand under them.
-ghost use Rattle.std.specs.Prelude.{◌≡◌};
-ghost use Rattle.printing.specs.Printing.{buffer, put_in, put_all_in};
+ghost use Rattle.std.specs.Prelude.{◌≡◌, [], ◌∷◌};
+ghost use Rattle.printing.specs.Printing.{Prints};
 ghost use Rattle.explain.specs.Shown.{byte_at, is_wide, is_control, blank_under, shown_for, piece_of, pieces};
 
 use line_places::next_begin;
-use printing::put;
+use printing::Out;
 
 // What is put for a character: a mark, a blank, a tab, U+3000, which is a blank over two columns, or the character
 // itself.
@@ -76,29 +76,27 @@ fn shown_for(bytes: &[u8], under: bool) -> Shown
     }
 }
 
-fn put_one(out: &mut [u8], at: usize, bytes: &[u8], shown: Shown) -> usize
-    ensures { buffer out.new result ≡ put_in (piece_of shown bytes.now) (buffer out.old at) }
+fn put_one(out: &mut Out, bytes: &[u8], shown: Shown)
+    ensures { Prints (piece_of shown bytes.now ∷ []) out.old out.new }
 {
     match shown {
-        Shown::Mark => put(out, at, b"?"),
-        Shown::Blank => put(out, at, b" "),
-        Shown::Tab => put(out, at, b"\t"),
-        Shown::WideBlank => put(out, at, b"\xE3\x80\x80"),
-        Shown::Itself => put(out, at, bytes),
+        Shown::Mark => out.put(b"?"),
+        Shown::Blank => out.put(b" "),
+        Shown::Tab => out.put(b"\t"),
+        Shown::WideBlank => out.put(b"\xE3\x80\x80"),
+        Shown::Itself => out.put(bytes),
     }
 }
 
 // The characters of a part of a line, or the blanks under them.
-pub(crate) fn put_part(out: &mut [u8], at: usize, part: &[u8], under: bool) -> usize
-    ensures { buffer out.new result ≡ put_all_in (pieces under part.now) (buffer out.old at) }
+pub(crate) fn put_part(out: &mut Out, part: &[u8], under: bool)
+    ensures { Prints (pieces under part.now) out.old out.new }
 {
-    let mut end = at;
     let mut i = 0;
     while i < part.len() {
         let next = next_begin(part, i + 1);
         let bytes = &part[i..next];
-        end = put_one(out, end, bytes, shown_for(bytes, under));
+        put_one(out, bytes, shown_for(bytes, under));
         i = next;
     }
-    end
 }

@@ -24,9 +24,8 @@ use console::{
 use expected::expected_of;
 use line_places::next_begin;
 use messages::put_told;
-use printing::{flush, least, put};
+use printing::Out;
 use refusals::TEXT_TOO_LONG;
-use store::ReadAnswer;
 
 const OUTPUT_BYTES: usize = 4_096;
 
@@ -39,54 +38,60 @@ const DOTS: [u8; 3] = *b"...";
 const BLANKS: [u8; 3] = *b"   ";
 
 // The last characters before a place, or the blanks under them, behind a mark for what is cut.
-fn put_before(out: &mut [u8], at: usize, before: &[u8], under: bool, mark: &[u8]) -> usize {
-    let from = next_begin(before, before.len() - least(SHOWN_BYTES, before.len()));
-    let cut = least(from, mark.len());
-    let end = put(out, at, &mark[0..cut]);
-    put_part(out, end, &before[from..], under)
+fn put_before(out: &mut Out, before: &[u8], under: bool, mark: &[u8]) {
+    let from = next_begin(before, before.len() - SHOWN_BYTES.min(before.len()));
+    let cut = from.min(mark.len());
+    out.put(&mark[0..cut]);
+    put_part(out, &before[from..], under);
 }
 
 // The first characters from a place on, and dots for what is cut.
-fn put_behind(out: &mut [u8], at: usize, behind: &[u8]) -> usize {
+fn put_behind(out: &mut Out, behind: &[u8]) {
     let to = next_begin(behind, SHOWN_BYTES);
-    let end = put_part(out, at, &behind[0..to], false);
-    let cut = least(behind.len() - to, DOTS.len());
-    put(out, end, &DOTS[0..cut])
+    put_part(out, &behind[0..to], false);
+    let cut = DOTS.len().min(behind.len() - to);
+    out.put(&DOTS[0..cut]);
 }
 
-fn put_shown_line(out: &mut [u8], at: usize, before: &[u8], behind: &[u8]) -> usize {
-    let end = put_before(out, at, before, false, &DOTS);
-    let end = put_behind(out, end, behind);
-    put(out, end, b"\n")
+fn put_shown_line(out: &mut Out, before: &[u8], behind: &[u8]) {
+    put_before(out, before, false, &DOTS);
+    put_behind(out, behind);
+    out.put(b"\n");
 }
 
-fn put_caret(out: &mut [u8], at: usize, before: &[u8]) -> usize {
-    let end = put_before(out, at, before, true, &BLANKS);
-    put(out, end, b"^\n")
+fn put_caret(out: &mut Out, before: &[u8]) {
+    put_before(out, before, true, &BLANKS);
+    out.put(b"^\n");
 }
 
 // The line that `place` stands in, and a caret under it.
-fn put_place(out: &mut [u8], at: usize, text: &[u8], place: usize) -> usize {
+fn put_place(out: &mut Out, text: &[u8], place: usize) {
     let shown = line_places::shown_place(text, place);
     let head = &text[0..shown];
     let tail = &text[shown..];
     let start = line_places::line_start(head);
     let stop = line_places::line_end(tail, 0);
-    let end = put_shown_line(out, at, &head[start..], &tail[0..stop]);
-    put_caret(out, end, &head[start..])
+    put_shown_line(out, &head[start..], &tail[0..stop]);
+    put_caret(out, &head[start..]);
 }
 
-fn put_explained(out: &mut [u8], text: &[u8], number: u32, place: usize) -> usize {
-    let end = put_refusal(out, 0, number, place, b": ");
-    let end = put_told(out, end, number, expected_of(text, number, place));
-    put_place(out, end, text, place)
+fn put_explained(out: &mut Out, text: &[u8], number: u32, place: usize) {
+    put_refusal(out, number, place, b": ");
+    put_told(out, number, expected_of(text, number, place));
+    put_place(out, text, place);
 }
 
-fn put_answer(out: &mut [u8], text: &[u8], read: ReadAnswer) -> usize {
-    if read.number != 0 {
-        return put_explained(out, text, read.number, read.place);
+fn put_answer(out: &mut Out, text: &[u8], nodes: &mut [u32], numbers: &mut [u32]) {
+    if is_over(text) {
+        put_explained(out, text, TEXT_TOO_LONG, INPUT_LIMIT);
+        return;
     }
-    put_line(out, 0, b"accepted", read.nodes, read.numbers, b"\n")
+    let read = wkt::read(text, nodes, numbers);
+    if read.number == 0 {
+        put_line(out, b"accepted", read.nodes, read.numbers, b"\n");
+    } else {
+        put_explained(out, text, read.number, read.place);
+    }
 }
 
 // The slices come as arrays, whose types tell their lengths.
@@ -94,21 +99,18 @@ fn print_answer(
     text: &[u8],
     nodes: &mut [u32; NODE_PLACES],
     numbers: &mut [u32; NUMBER_PLACES],
-    out: &mut [u8; OUTPUT_BYTES],
+    bytes: &mut [u8; OUTPUT_BYTES],
 ) {
-    let end = if is_over(text) {
-        put_explained(out, text, TEXT_TOO_LONG, INPUT_LIMIT)
-    } else {
-        put_answer(out, text, wkt::read(text, nodes, numbers))
-    };
-    flush(out, end);
+    let mut out = Out::new(bytes);
+    put_answer(&mut out, text, nodes, numbers);
+    out.flush();
 }
 
 fn main() {
     let mut input = [0u8; INPUT_BYTES];
     let mut nodes = [0u32; NODE_PLACES];
     let mut numbers = [0u32; NUMBER_PLACES];
-    let mut out = [0u8; OUTPUT_BYTES];
+    let mut bytes = [0u8; OUTPUT_BYTES];
     let count = read_input(&mut input);
-    print_answer(&input[..count], &mut nodes, &mut numbers, &mut out);
+    print_answer(&input[..count], &mut nodes, &mut numbers, &mut bytes);
 }

@@ -6,59 +6,57 @@ use console::{INPUT_BYTES, is_over, put_refusal, put_too_long, read_input};
 use infer_type::Inferred;
 use kinds::KIND_POINT;
 use names::{ENDING_COUNT, ENDING_LENGTHS, ENDINGS, NAME_COUNT, NAME_LENGTHS, NAMES};
-use printing::{flush, least, put};
+use printing::Out;
 
 const OUTPUT_BYTES: usize = 64;
 
-fn put_letters(out: &mut [u8], at: usize, letters: &[u8], length: u8) -> usize {
-    let end = least(length as usize, letters.len());
-    put(out, at, &letters[0..end])
+fn put_letters(out: &mut Out, letters: &[u8], length: u8) {
+    let end = letters.len().min(length as usize);
+    out.put(&letters[0..end]);
 }
 
 // By infer_type's answers a kind is one of the seven, and a dimension one of the four.
-fn put_kind(out: &mut [u8], kind: u32) -> usize {
+fn put_kind(out: &mut Out, kind: u32) {
     if kind < KIND_POINT {
-        return 0;
+        return;
     }
     let row = (kind - KIND_POINT) as usize;
     if row < NAME_COUNT {
-        put_letters(out, 0, &NAMES[row], NAME_LENGTHS[row])
-    } else {
-        0
+        put_letters(out, &NAMES[row], NAME_LENGTHS[row]);
     }
 }
 
-fn put_ending(out: &mut [u8], at: usize, dimension: u32) -> usize {
+fn put_ending(out: &mut Out, dimension: u32) {
     let row = dimension as usize;
     if row < ENDING_COUNT {
-        put_letters(out, at, &ENDINGS[row], ENDING_LENGTHS[row])
-    } else {
-        at
+        put_letters(out, &ENDINGS[row], ENDING_LENGTHS[row]);
     }
 }
 
-fn put_inferred(out: &mut [u8], inferred: Inferred) -> usize {
+fn put_inferred(out: &mut Out, inferred: Inferred) {
     if inferred.number != 0 {
-        return put_refusal(out, 0, inferred.number, inferred.place, b"\n");
+        put_refusal(out, inferred.number, inferred.place, b"\n");
+        return;
     }
-    let behind_kind = put_kind(out, inferred.kind);
-    let behind_plane = put(out, behind_kind, b" XY");
-    let end = put_ending(out, behind_plane, inferred.dimension);
-    put(out, end, b"\n")
+    put_kind(out, inferred.kind);
+    out.put(b" XY");
+    put_ending(out, inferred.dimension);
+    out.put(b"\n");
 }
 
-fn print_inferred(text: &[u8], out: &mut [u8; OUTPUT_BYTES]) {
-    let end = if is_over(text) {
-        put_too_long(out, 0)
+fn print_inferred(text: &[u8], bytes: &mut [u8; OUTPUT_BYTES]) {
+    let mut out = Out::new(bytes);
+    if is_over(text) {
+        put_too_long(&mut out);
     } else {
-        put_inferred(out, infer_type::infer_type(text))
-    };
-    flush(out, end);
+        put_inferred(&mut out, infer_type::infer_type(text));
+    }
+    out.flush();
 }
 
 fn main() {
     let mut input = [0u8; INPUT_BYTES];
-    let mut out = [0u8; OUTPUT_BYTES];
+    let mut bytes = [0u8; OUTPUT_BYTES];
     let count = read_input(&mut input);
-    print_inferred(&input[..count], &mut out);
+    print_inferred(&input[..count], &mut bytes);
 }

@@ -5,7 +5,7 @@
 use console::{INPUT_BYTES, INPUT_LIMIT, is_over, read_input};
 use expected::{NO_EXPECTATION, expected_of};
 use messages::complain;
-use printing::{STDOUT_FILENO, least};
+use printing::STDOUT_FILENO;
 use refusals::TEXT_TOO_LONG;
 use store::{NODE_WIDTH, NUMBER_WIDTH};
 
@@ -28,7 +28,7 @@ fn keep_rows(text: &[u8], nodes: &[u32], numbers: &[u32], kept: &mut [u8]) {
         complain(&NAME, wrote.number, wrote.place, NO_EXPECTATION);
         return;
     }
-    let length = least(wrote.length, kept.len());
+    let length = wrote.length.min(kept.len());
     io::write_all(STDOUT_FILENO, &kept[0..length]);
 }
 

@@ -5,7 +5,7 @@
 
 use expected::NO_EXPECTATION;
 use messages::complain;
-use printing::{STDIN_FILENO, flush, least};
+use printing::{Out, STDIN_FILENO};
 use refusals::TEXT_TOO_LONG;
 use row_lines::put_lines;
 use store::{NODE_WIDTH, NUMBER_WIDTH, ReadAnswer};
@@ -48,17 +48,14 @@ fn read(bytes: &[u8], nodes: &mut [u32], numbers: &mut [u32]) -> ReadAnswer {
     stored::read_2(bytes, nodes, numbers)
 }
 
-// Lists the tree whose stored bytes are the first `count` of the input.
-fn list_kept(input: &[u8], count: usize, nodes: &mut [u32], numbers: &mut [u32], out: &mut [u8]) {
-    let end = least(count, input.len());
-    let bytes = &input[0..end];
+// Lists the tree of the stored bytes.
+fn list_kept(bytes: &[u8], nodes: &mut [u32], numbers: &mut [u32], out: &mut Out) {
     let read = read(bytes, nodes, numbers);
-    if read.number != 0 {
+    if read.number == 0 {
+        put_lines(out, read, bytes, nodes, numbers);
+    } else {
         complain(&NAME, read.number, read.place, NO_EXPECTATION);
-        return;
     }
-    let full = put_lines(out, 0, read, bytes, nodes, numbers);
-    flush(out, full);
 }
 
 // The buffers come as arrays, whose types tell their lengths: lent as slices, the proof of `main` would have to count them out.
@@ -66,16 +63,18 @@ fn run(
     input: &mut [u8; INPUT_BYTES],
     nodes: &mut [u32; NODE_PLACES],
     numbers: &mut [u32; NUMBER_PLACES],
-    out: &mut [u8; OUTPUT_BYTES],
+    bytes: &mut [u8; OUTPUT_BYTES],
 ) {
     let count = io::read_full(STDIN_FILENO, input);
-    list_kept(input, count, nodes, numbers, out);
+    let mut out = Out::new(bytes);
+    list_kept(&input[..count], nodes, numbers, &mut out);
+    out.flush();
 }
 
 fn main() {
     let mut input = [0u8; INPUT_BYTES];
     let mut nodes = [0u32; NODE_PLACES];
     let mut numbers = [0u32; NUMBER_PLACES];
-    let mut out = [0u8; OUTPUT_BYTES];
-    run(&mut input, &mut nodes, &mut numbers, &mut out);
+    let mut bytes = [0u8; OUTPUT_BYTES];
+    run(&mut input, &mut nodes, &mut numbers, &mut bytes);
 }

@@ -5,6 +5,8 @@ ghost use Rattle.std.specs.Prelude.{◌≡◌, ◌≤◌, length};
 ghost use Rattle.scan.specs.Runs.{first_not};
 ghost use Rattle.line_places.specs.Lines.{is_break, is_in_line, goes_on, line_start, break_count, line_from, trimmed, shown_place};
 
+use scan::first_not;
+
 // What ends a line: LF or CR.
 fn is_break(b: u8) -> bool
     ensures { result ≡ is_break b }
@@ -37,14 +39,7 @@ pub fn line_end(text: &[u8], place: usize) -> usize
     ensures value { result ≡ first_not is_in_line text.now place }
     ensures upper_bound { result ≤ length text.now }
 {
-    let mut i = place;
-    while i < text.len() {
-        if is_break(text[i]) {
-            return i;
-        }
-        i += 1;
-    }
-    text.len()
+    first_not(text, place, |b| !is_break(b))
 }
 
 // Where the first character from `place` on begins.
@@ -52,15 +47,7 @@ pub fn next_begin(text: &[u8], place: usize) -> usize
     ensures value { result ≡ first_not goes_on text.now place }
     ensures upper_bound { result ≤ length text.now }
 {
-    let mut i = place;
-    while i < text.len() {
-        if goes_on(text[i]) {
-            i += 1;
-        } else {
-            return i;
-        }
-    }
-    text.len()
+    first_not(text, place, goes_on)
 }
 
 // How many line ends a byte is: one or none.

@@ -3,7 +3,7 @@
 #![tactic(auto)]
 
 use console::{INPUT_BYTES, NODE_PLACES, NUMBER_PLACES, read_input};
-use printing::flush;
+use printing::Out;
 use row_lines::list;
 
 const OUTPUT_BYTES: usize = 65_536;
@@ -13,17 +13,18 @@ fn print_lines(
     text: &[u8],
     nodes: &mut [u32; NODE_PLACES],
     numbers: &mut [u32; NUMBER_PLACES],
-    out: &mut [u8; OUTPUT_BYTES],
+    bytes: &mut [u8; OUTPUT_BYTES],
 ) {
-    let end = list(text, nodes, numbers, out, 0);
-    flush(out, end);
+    let mut out = Out::new(bytes);
+    list(text, nodes, numbers, &mut out);
+    out.flush();
 }
 
 fn main() {
     let mut input = [0u8; INPUT_BYTES];
     let mut nodes = [0u32; NODE_PLACES];
     let mut numbers = [0u32; NUMBER_PLACES];
-    let mut out = [0u8; OUTPUT_BYTES];
+    let mut bytes = [0u8; OUTPUT_BYTES];
     let count = read_input(&mut input);
-    print_lines(&input[..count], &mut nodes, &mut numbers, &mut out);
+    print_lines(&input[..count], &mut nodes, &mut numbers, &mut bytes);
 }

@@ -4,41 +4,24 @@
 #![tactic(auto)]
 
 use console::{NODE_PLACES, NUMBER_PLACES, U32_BYTES, u32_at};
-use printing::{STDIN_FILENO, flush, least, put};
+use printing::{Out, STDIN_FILENO};
 use row_lines::list;
 
 const INPUT_BYTES: usize = 524_288;
 
 const OUTPUT_BYTES: usize = 65_536;
 
-fn list_one(
-    text: &[u8],
-    nodes: &mut [u32],
-    numbers: &mut [u32],
-    out: &mut [u8],
-    at: usize,
-) -> usize {
-    let end = list(text, nodes, numbers, out, at);
-    put(out, end, b"\n")
-}
-
 // The record at a place begins with its count, and a text of so many bytes follows; both are cut where the input ends.
-fn list_all(
-    input: &[u8],
-    nodes: &mut [u32; NODE_PLACES],
-    numbers: &mut [u32; NUMBER_PLACES],
-    out: &mut [u8; OUTPUT_BYTES],
-) {
-    let mut full = 0;
+fn list_all(input: &[u8], nodes: &mut [u32], numbers: &mut [u32], out: &mut Out) {
     let mut at = 0;
     while at < input.len() {
-        let start = at + least(U32_BYTES, input.len() - at);
+        let start = at + U32_BYTES.min(input.len() - at);
         let count = u32_at(input, at) as usize;
-        let end = start + least(count, input.len() - start);
-        full = list_one(&input[start..end], nodes, numbers, out, full);
+        let end = start + count.min(input.len() - start);
+        list(&input[start..end], nodes, numbers, out);
+        out.put(b"\n");
         at = end;
     }
-    flush(out, full);
 }
 
 // The buffers come as arrays, whose types tell their lengths: lent as slices, the proof of `main` would have to count them out.
@@ -46,16 +29,18 @@ fn run(
     input: &mut [u8; INPUT_BYTES],
     nodes: &mut [u32; NODE_PLACES],
     numbers: &mut [u32; NUMBER_PLACES],
-    out: &mut [u8; OUTPUT_BYTES],
+    bytes: &mut [u8; OUTPUT_BYTES],
 ) {
     let count = io::read_full(STDIN_FILENO, input);
-    list_all(&input[..count], nodes, numbers, out);
+    let mut out = Out::new(bytes);
+    list_all(&input[..count], nodes, numbers, &mut out);
+    out.flush();
 }
 
 fn main() {
     let mut input = [0u8; INPUT_BYTES];
     let mut nodes = [0u32; NODE_PLACES];
     let mut numbers = [0u32; NUMBER_PLACES];
-    let mut out = [0u8; OUTPUT_BYTES];
-    run(&mut input, &mut nodes, &mut numbers, &mut out);
+    let mut bytes = [0u8; OUTPUT_BYTES];
+    run(&mut input, &mut nodes, &mut numbers, &mut bytes);
 }

@@ -5,7 +5,7 @@
 
 use expected::NO_EXPECTATION;
 use messages::complain;
-use printing::{STDERR_FILENO, STDIN_FILENO, STDOUT_FILENO, least};
+use printing::{STDERR_FILENO, STDIN_FILENO, STDOUT_FILENO};
 use refusals::TEXT_TOO_LONG;
 use std::env::Env;
 use store::{NODE_WIDTH, NUMBER_WIDTH};
@@ -75,21 +75,18 @@ fn tell(answer: MoveAnswer, moved: &[u8]) {
         complain(&NAME, answer.number, answer.place, NO_EXPECTATION);
         return;
     }
-    let length = least(answer.length, moved.len());
+    let length = answer.length.min(moved.len());
     io::write_all(STDOUT_FILENO, &moved[0..length]);
 }
 
-// Moves the stored bytes that are the first `count` of the input.
+// Moves the stored bytes by the word after the program's name.
 fn move_bytes(
     rt: &HostRuntime,
-    input: &[u8],
-    count: usize,
+    bytes: &[u8],
     nodes: &mut [u32],
     numbers: &mut [u32],
     moved: &mut [u8],
 ) {
-    let end = least(count, input.len());
-    let bytes = &input[0..end];
     match word_after_name(rt) {
         Way::Up => {
             let answer = stored::move_1_to_2(bytes, nodes, numbers, moved);
@@ -114,7 +111,7 @@ fn run(
     moved: &mut [u8; OUTPUT_BYTES],
 ) {
     let count = io::read_full(STDIN_FILENO, input);
-    move_bytes(rt, input, count, nodes, numbers, moved);
+    move_bytes(rt, &input[..count], nodes, numbers, moved);
 }
 
 fn main(rt: HostRuntime) {

@@ -10,7 +10,8 @@ use lib.ListN.{length}
 use lib.Seq.{sets}
 use Rattle.pen.specs.declared.Pen.{Pen}
 use Rattle.pen.specs.Pen.{pen, has_room, pen_after, out_after, Puts}
-use Rattle.printing.specs.Printing.{Buffer, buffer, has_room_at, standing, put_in, put_all_in}
+use Rattle.printing.specs.declared.Out.{Out}
+use Rattle.printing.specs.Printing.{Buffer, buffer, has_room_at, standing, held, put_in, put_all_in, Prints}
 
 -- what a pen says of the buffer, by whether the text had room
 module _ {text out out' : List ℕ} {at : ℕ} {r : Pen} (h : Puts text (pen at false) out r out') where
@@ -71,3 +72,20 @@ pub put_then : (xs ys : List (List ℕ)) (b : Buffer) → put_all_in (xs ++ ys) 
 unfolding put_all_in
 put_then [] ys b = refl
 put_then (x ∷ xs) ys b = put_then xs ys (put_in x b)
+
+-- in the same bytes some texts are put, and then others
+pub prints_then : {xs ys : List (List ℕ)} {a b c : Out} → Prints xs a b → Prints ys b c → Prints (xs ++ ys) a c
+prints_then {xs} {ys} {a} p q = record {
+  same_bytes = q.same_bytes ∙ p.same_bytes;
+  holds = q.holds ∙ ap (put_all_in ys) p.holds ∙ sym (put_then xs ys (held a));
+}
+
+-- nothing is put
+pub prints_none : (a : Out) → Prints [] a a
+unfolding put_all_in
+prints_none a = record { same_bytes = refl; holds = refl }
+
+-- one text is put
+pub prints_one : {text : List ℕ} {a b : Out} → b.bytes.ghost_name ≡ a.bytes.ghost_name → held b ≡ put_in text (held a) → Prints (text ∷ []) a b
+unfolding put_all_in
+prints_one n h = record { same_bytes = n; holds = h }

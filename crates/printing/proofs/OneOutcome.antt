@@ -1,14 +1,16 @@
 -- Two answers that a public function's contract allows for one input are one answer, and so are two buffers that are left.
 -- Assumes nothing.
-use Prim.Native.Nat.{ℕ, min}
-use mathlib.Core.Path.{◌≡◌}
+use Prim.Native.Nat.{ℕ}
+use mathlib.Core.Path.{◌≡◌, sym, ◌∙◌}
 use mathlib.Core.List.{List}
 use Rattle.lists.specs.One.{One}
 use Rattle.lists.proofs.One.{one}
-use Rattle.printing.specs.Printing.{Buffer, put_in, put_all_in, decimal, spaced}
+use Rattle.printing.specs.declared.Out.{Out}
+use Rattle.printing.specs.Printing.{Buffer, put_in, put_all_in, decimal, spaced, held, Prints}
 
-pub least_one : (a b : ℕ) → One (λ r. r ≡ min a b)
-least_one a b = one
+-- what lent bytes hold after the texts, and which bytes they are
+pub prints_one_outcome : {texts : List (List ℕ)} {o a b : Out} → Prints texts o a → Prints texts o b → (held a ≡ held b) × (a.bytes.ghost_name ≡ b.bytes.ghost_name)
+prints_one_outcome p q = (p.holds ∙ sym q.holds, p.same_bytes ∙ sym q.same_bytes)
 
 -- the bytes and the count together
 module _ (b : Buffer) where

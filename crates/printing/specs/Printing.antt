@@ -1,7 +1,8 @@
 -- What a buffer holds after a text is put behind its full bytes. What leaves it for standard output is outside of the language.
-use Rattle.std.specs.Prelude.{ℕ, zero, suc, ◌+◌, ◌/◌, min, Bool, cond, List, [], ◌∷◌, leb, ltb, length}
+use Rattle.std.specs.Prelude.{◌≡◌, ℕ, zero, suc, ◌+◌, ◌/◌, min, Bool, cond, List, [], ◌∷◌, leb, ltb, length}
 use Rattle.std.proofs.lemmas.List.Edits.{sets}
 use Rattle.scan.specs.Bytes.{space}
+use Rattle.printing.specs.declared.Out.{Out}
 use Rattle.io.specs.Digits.{last_digits}
 
 -- a buffer, and how many of its bytes are full
@@ -11,6 +12,10 @@ pub record Buffer : Type 0 where
 
 abbrev pub buffer : List ℕ → ℕ → Buffer
 buffer bytes count = record { bytes = bytes; count = count }
+
+-- what lent bytes hold
+abbrev pub held : Out → Buffer
+held o = buffer o.bytes.now o.at
 
 -- the count, which a caller may give too large
 abbrev pub full_of : Buffer → ℕ
@@ -36,6 +41,11 @@ put_in text b =
 unfoldable pub put_all_in : List (List ℕ) → Buffer → Buffer
 put_all_in [] b = b
 put_all_in (text ∷ texts) b = put_all_in texts (put_in text b)
+
+-- texts are put one after the other, into the same bytes
+pub record Prints (texts : List (List ℕ)) (o o' : Out) : Type 0 where
+  pub same_bytes : o'.bytes.ghost_name ≡ o.bytes.ghost_name
+  pub holds : held o' ≡ put_all_in texts (held o)
 
 -- how many decimal digits a number has; no number has more than itself and one
 unfoldable pub places_from : ℕ → ℕ → ℕ

@@ -1,10 +1,9 @@
-// Standard output, written through a buffer that the caller lends with the count of its full bytes, `at`; each
-// `put` answers the count after it. The contracts say what stands in the buffer: what reaches standard output is
-// outside of the language.
+// Standard output, written through bytes that the caller lends and of which the first ones are full. The contracts say
+// what stands in them: what reaches standard output is outside of the language.
 #![tactic(auto)]
 
-ghost use Rattle.std.specs.Prelude.{◌≡◌, [], ◌∷◌, ◌≤◌, min};
-ghost use Rattle.printing.specs.Printing.{buffer, put_in, put_all_in, decimal, spaced};
+ghost use Rattle.std.specs.Prelude.{◌≡◌, [], ◌∷◌};
+ghost use Rattle.printing.specs.Printing.{buffer, held, Prints, decimal, spaced};
 
 use pen::Pen;
 
@@ -18,61 +17,69 @@ pub const STDERR_FILENO: i32 = 2;
 // The most digits that a u64 has.
 const MAX_DIGITS: usize = 20;
 
-// The lesser of two numbers. It keeps a place inside its buffer where no proof says that it lies there.
-pub fn least(a: usize, b: usize) -> usize
-    ensures upper_bound { result ≤ a }
-    ensures upper_bound_2 { result ≤ b }
-    ensures value { result ≡ min a b }
-{
-    if a < b { a } else { b }
+// Lent bytes, of which the first `at` are full: what is on its way to standard output.
+#[derive(Drop)]
+pub struct Out<'a> {
+    pub bytes: &'a mut [u8],
+    pub at: usize,
 }
 
-// Writes out what the buffer holds.
-pub fn flush(out: &[u8], at: usize) {
-    let full = least(at, out.len());
-    io::write_all(STDOUT_FILENO, &out[0..full]);
-}
-
-// Puts a text behind what the buffer holds, which is written out first where there is no room.
-pub fn put(out: &mut [u8], at: usize, text: &[u8]) -> usize
-    ensures { buffer out.new result ≡ put_in text.now (buffer out.old at) }
-{
-    let full = least(at, out.len());
-    let behind = pen::put(
-        out,
-        Pen {
-            at: full,
-            full: false,
-        },
-        text,
-    );
-    if behind.full {
-        flush(out, full);
-    } else {
-        return behind.at;
+impl<'a> Out<'a> {
+    // Nothing of the bytes is full.
+    pub fn new(bytes: &'a mut [u8]) -> Out<'a>
+        ensures same_bytes { result.bytes.ghost_name ≡ bytes.entry.ghost_name }
+        ensures holds { held result ≡ buffer bytes.old 0 }
+    {
+        Out { bytes, at: 0 }
     }
-    let first = pen::put(out, Pen { at: 0, full: false }, text);
-    if first.full {
-        io::write_all(STDOUT_FILENO, text);
-        0
-    } else {
-        first.at
+
+    // Writes out what the buffer holds.
+    pub fn flush(&self) {
+        let full = self.at.min(self.bytes.len());
+        io::write_all(STDOUT_FILENO, &self.bytes[0..full]);
     }
-}
 
-// Puts a number's decimal digits.
-pub fn put_number(out: &mut [u8], at: usize, number: usize) -> usize
-    ensures { buffer out.new result ≡ put_in (decimal number) (buffer out.old at) }
-{
-    let mut digits = [0u8; MAX_DIGITS];
-    let count = io::decimal(number as u64, &mut digits);
-    put(out, at, &digits[..count])
-}
+    // Puts a text behind what the buffer holds, which is written out first where there is no room.
+    pub fn put(&mut self, text: &[u8])
+        ensures { Prints (text.now ∷ []) self.old self.new }
+    {
+        let full = self.at.min(self.bytes.len());
+        let behind = pen::put(
+            self.bytes,
+            Pen {
+                at: full,
+                full: false,
+            },
+            text,
+        );
+        if !behind.full {
+            self.at = behind.at;
+            return;
+        }
+        self.flush();
+        let first = pen::put(self.bytes, Pen { at: 0, full: false }, text);
+        if first.full {
+            io::write_all(STDOUT_FILENO, text);
+            self.at = 0;
+        } else {
+            self.at = first.at;
+        }
+    }
 
-// Puts a space, and then a number.
-pub fn put_spaced(out: &mut [u8], at: usize, number: usize) -> usize
-    ensures { buffer out.new result ≡ put_all_in (spaced number) (buffer out.old at) }
-{
-    let end = put(out, at, b" ");
-    put_number(out, end, number)
+    // Puts a number's decimal digits.
+    pub fn put_number(&mut self, number: usize)
+        ensures { Prints (decimal number ∷ []) self.old self.new }
+    {
+        let mut digits = [0u8; MAX_DIGITS];
+        let count = io::decimal(number as u64, &mut digits);
+        self.put(&digits[..count]);
+    }
+
+    // Puts a space, and then a number.
+    pub fn put_spaced(&mut self, number: usize)
+        ensures { Prints (spaced number) self.old self.new }
+    {
+        self.put(b" ");
+        self.put_number(number);
+    }
 }

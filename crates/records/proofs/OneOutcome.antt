@@ -1,9 +1,10 @@
 -- Two answers that a public function's contract allows for one input are one answer, and so are two slices and two buffers that are left. `refill` isn't
 -- here: what it leaves is what standard input has.
 -- Assumes nothing.
-use Prim.Native.Nat.{ℕ, ◌+◌, ◌*◌}
+use Prim.Native.Nat.{ℕ}
 use mathlib.Core.Path.{◌≡◌, sym, ap, ◌∙◌}
 use mathlib.Core.List.{List}
+use Rattle.std.proofs.Common.{Option}
 use lib.ListN.{drop}
 use Rattle.lists.specs.One.{One}
 use Rattle.lists.proofs.One.{one}
@@ -13,7 +14,7 @@ use Rattle.store.specs.declared.ReadAnswer.{ReadAnswer}
 use Rattle.store.specs.declared.WriteAnswer.{WriteAnswer}
 use Rattle.records.specs.declared.input.State.{State}
 use Rattle.records.specs.declared.slices.Slices.{Slices}
-use Rattle.records.specs.Records.{has_text_at, after_lengths, slices_at, lent_in, filled, Loads}
+use Rattle.records.specs.Records.{has_text_at, slices_at, lent_in, rows_of_nodes, rows_of_numbers, Loads}
 use Rattle.records.specs.Input.{front_of, cut_in}
 use Rattle.records.specs.Lines.{bad_record, three_numbers, left_line, read_line, write_line, move_line}
 
@@ -37,12 +38,12 @@ module _ (bytes : List ℕ) where
   lent_one = one
 
   -- what is told, and both slices
-  pub load_one : (ns ms : List ℕ) {r r' : Slices} {ns' ns'' ms' ms'' : List ℕ} → Loads bytes ns ms r ns' ms' → Loads bytes ns ms r' ns'' ms'' → (r ≡ r') × (ns' ≡ ns'') × (ms' ≡ ms'')
+  pub load_one : (ns ms : List ℕ) {r r' : Option Slices} {ns' ns'' ms' ms'' : List ℕ} → Loads bytes ns ms r ns' ms' → Loads bytes ns ms r' ns'' ms'' → (r ≡ r') × (ns' ≡ ns'') × (ms' ≡ ms'')
   load_one ns ms a b =
       let same = a.told ∙ sym b.told in (
         same,
-        a.nodes ∙ (ap (λ (s : Slices). filled (drop after_lengths bytes) s.nodes ns) same ∙ sym b.nodes),
-        a.numbers ∙ (ap (λ (s : Slices). filled (drop (after_lengths + s.nodes * 4) bytes) s.numbers ms) same ∙ sym b.numbers),
+        a.nodes ∙ (ap (λ s. rows_of_nodes bytes s ns) same ∙ sym b.nodes),
+        a.numbers ∙ (ap (λ s. rows_of_numbers bytes s ms) same ∙ sym b.numbers),
       )
 
 -- the bytes and the count together

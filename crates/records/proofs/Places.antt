@@ -2,58 +2,25 @@
 -- Assumes nothing.
 use mathlib.Core.Path.{◌≡◌, refl, sym, ap, ◌∙◌}
 use mathlib.Core.List.{List, ◌++◌}
-use Prim.Native.Nat.{ℕ, suc, ◌+◌, ◌-◌, ◌≤◌, ◌<◌, min}
+use Prim.Native.Nat.{ℕ, ◌+◌, ◌-◌, ◌≤◌, ◌<◌, min}
 use native.Mathlib.Omega.{arith}
-use native.Mathlib.Numerals.{add-one}
+use Rattle.std.proofs.Common.{zero-add}
 use native.Mathlib.Decide.{dec_lt}
-use lib.Dec.{ltb}
-use lib.ListN.{length, get_or, take, drop, set, length-append, length-take, length-drop, drop_of_length-le}
-use lib.Seq.{length-take-le, drop-cons, drop-length, take-suc, take_at, get_or-drop, get_or-append-add, set_at, append_snoc}
+use lib.Dec.{ltb, eqb}
+use lib.ListN.{length, take, drop, length-take, length-drop, drop_of_length-le}
+use lib.Seq.{length-take-le, drop-length, take_all, take_at}
+use Rattle.std.specs.List.{copy_within, count_by}
+use Rattle.std.proofs.lemmas.List.Recursion.{is_count_by}
+use mathlib.Core.Bool.{Bool, true, false, cond, not}
 use borrow.Author.Tests.{lt-ltb, le-ltb}
 use borrow.Rule.Slice.PartMut.{put_mid}
 use Rattle.records.specs.declared.input.State.{State}
 use Rattle.records.specs.Input.{state, unread_to, unread_from, unread, Refilled}
 use Rattle.records.specs.Lines.{one_unless_zero, not_zero, left_over}
 
--- bytes are moved to the front one after the other: the first i of those from `from` on stand there
-unfoldable pub moved : List ℕ → ℕ → ℕ → List ℕ
-moved l from i = take i (drop from l) ++ drop i l
-
-module _ (l : List ℕ) (from : ℕ) where
-  pub moved_none : l ≡ moved l from 0
-  unfolding moved
-  moved_none = refl
-
-  module _ (i : ℕ) (h : from + i ≤ length l) where
-    front_length : length (take i (drop from l)) ≡ i
-    front_length = simp (length-take, length-drop) (omega arith)
-
-    pub moved_length : length (moved l from i) ≡ length l
-    unfolding moved
-    moved_length = simp (length-append, front_length, length-drop) (omega arith)
-
-    pub moved_all : (n : ℕ) {m : List ℕ} → i ≤ n → n ≤ i → m ≡ moved l from i → take n m ≡ take n (drop from l)
-    unfolding moved
-    moved_all n {m} a b e =
-        let x : n ≡ i = omega arith in
-        rw (e, x) (take_at (take i (drop from l)) (drop i l) i front_length)
-
-    moved_at : get_or (moved l from i) (from + i) 0 ≡ get_or l (from + i) 0
-    unfolding moved
-    moved_at =
-        let e : from + i ≡ i + from = omega arith in
-        let x : length (take i (drop from l)) + from ≡ i + from = omega (arith, front_length) in
-        rw (e, ← x, get_or-append-add (take i (drop from l)) (drop i l) from 0, x) (get_or-drop i l from 0)
-
-    pub moved_on : from + i < length l → set (moved l from i) i (get_or (moved l from i) (from + i) 0) ≡ moved l from (i + 1)
-    unfolding moved
-    moved_on g =
-        let j : i < length l = omega arith in
-        let k : i < length (drop from l) = rw (length-drop from l) (omega arith) in
-        let x : get_or (moved l from i) (from + i) 0 ≡ get_or (drop from l) i 0 = moved_at ∙ sym (get_or-drop from l i 0) in
-        ap (set (moved l from i) i) x
-        ∙ rw (drop-cons l i 0 j, set_at (take i (drop from l)) (get_or l i 0) (drop (suc i) l) (get_or (drop from l) i 0) i front_length, add-one i, take-suc (drop from l) i 0 k)
-        (sym (append_snoc (take i (drop from l)) (get_or (drop from l) i 0) (drop (suc i) l)))
+-- bytes that are copied to the front stand there
+pub moved_front : (l : List ℕ) (from to : ℕ) → from ≤ to → to ≤ length l → take (to - from) (copy_within l from to 0) ≡ take (to - from) (drop from l)
+moved_front l from to h g = rw (zero-add (to - from)) (take_at (take (to - from) (drop from l)) (drop (to - from) l) (to - from) (simp (length-take, length-drop) (omega arith)))
 
 -- something was read where there is more than before
 some_read : (left count : ℕ) → ltb 0 count ≡ ltb left (left + count)
@@ -73,7 +40,7 @@ module _ (s : State) (l : List ℕ) {to from : ℕ} (a : to ≡ unread_to s l) (
       let x : from ≡ unread_from s l = rw (b, a) in
       rw (← left_unread, ← x) (take_at (take (to - from) m) (n ++ drop len (drop (to - from) m)) (to - from) (length-take-le (to - from) m h) ∙ e)
 
-  pub refilled : (m n : List ℕ) (count : ℕ) {passed : ℕ} → length m ≡ length l → take (to - from) m ≡ take (to - from) (drop from l) → to - from + count ≤ length l → passed ≡ min s.skip (to - from + count) → Refilled s l (state passed (to - from + count) (s.skip - passed) s.at (ltb 0 count)) (put_mid (to - from) (length m - (to - from)) m n)
+  pub refilled : (m n : List ℕ) (count : ℕ) {passed : ℕ} → length m ≡ length l → take (to - from) m ≡ take (to - from) (drop from l) → to - from + count ≤ length l → passed ≡ min s.skip (to - from + count) → Refilled s l (state passed (to - from + count) (s.skip - passed) (ltb 0 count)) (put_mid (to - from) (length m - (to - from)) m n)
   refilled m n count h e f g =
       record {
         kept = kept_front m n (length m - (to - from)) (omega arith) e;
@@ -82,32 +49,25 @@ module _ (s : State) (l : List ℕ) {to from : ℕ} (a : to ≡ unread_to s l) (
         from = omega arith;
         have = f;
         passed = omega arith;
-        at = refl;
       }
 
--- counting from the first place that isn't used, or from the end
-module _ (l : List ℕ) where
-  pub left_first : (used i : ℕ) → i ≡ min used (length l) → 0 + left_over l i ≡ left_over l used
-  left_first used i e =
-      let x : left_over l i ≡ left_over l used = ap not_zero (go (dec_lt (length l) used)) in
-      omega arith
-    where
-      go : Dec (length l < used) → drop i l ≡ drop used l
-      go (yes h) =
-          let y : i ≡ length l = omega arith in
-          rw y (drop-length l ∙ sym (drop_of_length-le l {i = used} (omega arith)))
-      go (no h) =
-          let y : i ≡ used = omega arith in
-          rw y
+-- the places that aren't zero are those that the test finds
+pub count_is : (l : List ℕ) → not_zero l ≡ count_by (λ n. not (eqb n 0)) l
+unfolding not_zero
+count_is l = is_count_by not_zero (λ n. not (eqb n 0)) refl (λ x xs. go x xs (eqb x 0) refl) l
+  where
+    go : (x : ℕ) (xs : List ℕ) (t : Bool) → eqb x 0 ≡ t → one_unless_zero x + not_zero xs ≡ cond (not (eqb x 0)) (1 + not_zero xs) (not_zero xs)
+    go x xs true e = rw e (omega arith)
+    go x xs false e = rw e (omega arith)
 
-  pub left_on : (i k n : ℕ) → i < length l → k + left_over l i ≡ n → (k + one_unless_zero (get_or l i 0)) + left_over l (i + 1) ≡ n
-  unfolding not_zero
-  left_on i k n h e =
-      let x = rw (drop-cons l i 0 h) at e in
-      rw (add-one i) (omega arith)
-
-  pub left_all : (i k n : ℕ) → length l ≤ i → k + left_over l i ≡ n → k ≡ n
-  unfolding not_zero
-  left_all i k n h e =
-      let x = rw (drop_of_length-le l h) at e in
-      omega arith
+-- from the first place that isn't used on, or from the end
+pub left_from : (l : List ℕ) (used i : ℕ) → i ≡ min used (length l) → not_zero (take (length l - i) (drop i l)) ≡ left_over l used
+left_from l used i e = ap not_zero (take_all (length l - i) (drop i l) (omega (arith, length-drop i l)) ∙ go (dec_lt (length l) used))
+  where
+    go : Dec (length l < used) → drop i l ≡ drop used l
+    go (yes h) =
+        let y : i ≡ length l = omega arith in
+        rw y (drop-length l ∙ sym (drop_of_length-le l {i = used} (omega arith)))
+    go (no h) =
+        let y : i ≡ used = omega arith in
+        rw y

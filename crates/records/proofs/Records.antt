@@ -3,6 +3,7 @@
 use mathlib.Core.Path.{◌≡◌, refl, sym, ◌∙◌}
 use mathlib.Core.Bool.{Bool, true, false, ◌&&◌}
 use mathlib.Core.List.{List}
+use Rattle.std.proofs.Common.{Some, None}
 use Prim.Native.Nat.{ℕ, suc, ◌+◌, ◌-◌, ◌*◌, ◌≤◌, ◌<◌, min}
 use native.Mathlib.Omega.{arith}
 use native.Mathlib.Decide.{dec_lt}
@@ -44,19 +45,19 @@ module _ (l : List ℕ) (at : ℕ) where
 
 -- what is told of both slices, from the numbers that were read
 module _ (l : List ℕ) (text : ℕ) {nodes numbers : ℕ} {t : Bool} (a : nodes ≡ node_places l) (b : numbers ≡ number_places l) (e : t ≡ has_text_at l text) where
-  pub told_fits : ((leb nodes max_slice && leb numbers max_slice) && t) ≡ true → slices true nodes numbers text ≡ slices_at l text
+  pub told_fits : ((leb nodes max_slice && leb numbers max_slice) && t) ≡ true → Some (slices nodes numbers text) ≡ slices_at l text
   unfolding slices_at
   told_fits h =
       let x = rw (a, b, e) at h in
       rw (x, a, b)
 
-  pub told_lacks : ((leb nodes max_slice && leb numbers max_slice) && t) ≡ false → slices false 0 0 0 ≡ slices_at l text
+  pub told_lacks : ((leb nodes max_slice && leb numbers max_slice) && t) ≡ false → None ≡ slices_at l text
   unfolding slices_at
   told_lacks h =
       let x = rw (a, b, e) at h in
       rw x
 
-  pub told_within : ((leb nodes max_slice && leb numbers max_slice) && t) ≡ true → Within (slices true nodes numbers text) (length l)
+  pub told_within : ((leb nodes max_slice && leb numbers max_slice) && t) ≡ true → Within (slices nodes numbers text) (length l)
   told_within h =
       let both = and_both _ _ h in
       let fit = and_both _ _ both.0 in

@@ -1,5 +1,5 @@
 -- Worked examples of this crate's definitions, by computation.
-use Rattle.std.specs.Prelude.{ℕ, ◌≡◌, refl, true, false, take, drop, replicate}
+use Rattle.std.specs.Prelude.{ℕ, ◌≡◌, refl, true, false, Some, None, take, drop, replicate}
 use mathlib.Core.List.{List, [], ◌∷◌, ◌++◌, flat_map}
 use Rattle.scan.specs.Text.{bytes}
 use Rattle.store.specs.Rows.{places_of, firsts}
@@ -61,7 +61,7 @@ unfolding all
 moved = (refl, refl)
 
 -- a slice of 98,304 places and an empty text; of one more; and with the second length cut
-limits : (lent_in (0 ∷ 128 ∷ 1 ∷ 0 ∷ 5 ∷ 0 ∷ 0 ∷ 0 ∷ []) ≡ slices true 98304 5 8) × (lent_in (1 ∷ 128 ∷ 1 ∷ 0 ∷ 5 ∷ 0 ∷ 0 ∷ 0 ∷ []) ≡ slices false 0 0 0) × (lent_in (1 ∷ 0 ∷ 0 ∷ 0 ∷ 5 ∷ 0 ∷ 0 ∷ []) ≡ slices false 0 0 0)
+limits : (lent_in (0 ∷ 128 ∷ 1 ∷ 0 ∷ 5 ∷ 0 ∷ 0 ∷ 0 ∷ []) ≡ Some (slices 98304 5 8)) × (lent_in (1 ∷ 128 ∷ 1 ∷ 0 ∷ 5 ∷ 0 ∷ 0 ∷ 0 ∷ []) ≡ None) × (lent_in (1 ∷ 0 ∷ 0 ∷ 0 ∷ 5 ∷ 0 ∷ 0 ∷ []) ≡ None)
 unfolding all
 limits = (refl, refl, refl)
 
@@ -70,12 +70,12 @@ brought : List ℕ
 brought = 1 ∷ 0 ∷ 0 ∷ 0 ∷ 2 ∷ 0 ∷ 0 ∷ 0 ∷ 7 ∷ 0 ∷ 0 ∷ 0 ∷ 8 ∷ 1 ∷ 0 ∷ 0 ∷ 9 ∷ 0 ∷ 0 ∷ 0 ∷ bytes "ab"
 
 -- where the text starts; and without the last byte of the rows the record is cut
-told : (brought_in brought ≡ slices true 1 2 20) × (drop 20 brought ≡ bytes "ab") × (brought_in (take 19 brought) ≡ slices false 0 0 0)
+told : (brought_in brought ≡ Some (slices 1 2 20)) × (drop 20 brought ≡ bytes "ab") × (brought_in (take 19 brought) ≡ None)
 unfolding all brought
 told = (refl, refl, refl)
 
 -- the rows at the front of four places each
-rows : Loads brought (replicate 4 5) (replicate 4 6) (slices true 1 2 20) (7 ∷ 5 ∷ 5 ∷ 5 ∷ []) (264 ∷ 9 ∷ 6 ∷ 6 ∷ [])
+rows : Loads brought (replicate 4 5) (replicate 4 6) (Some (slices 1 2 20)) (7 ∷ 5 ∷ 5 ∷ 5 ∷ []) (264 ∷ 9 ∷ 6 ∷ 6 ∷ [])
 unfolding all brought
 rows = record { told = refl; nodes = refl; numbers = refl }
 
@@ -84,7 +84,7 @@ input : List ℕ
 input = 2 ∷ 0 ∷ 0 ∷ 0 ∷ bytes "ab" ++ 9 ∷ 0 ∷ 0 ∷ 0 ∷ bytes "cd"
 
 -- a whole record; one that lacks a byte, or one of its count; one that is too large, of which seven bytes are still to come
-fronts : (front_of input (state 0 12 0 0 true) ≡ Whole 4 6) × (front_of input (state 0 5 0 0 true) ≡ Cut) × (front_of input (state 0 3 0 0 true) ≡ Cut) × (front_of input (state 6 12 0 0 true) ≡ TooLarge 7)
+fronts : (front_of input (state 0 12 0 true) ≡ Whole 4 6) × (front_of input (state 0 5 0 true) ≡ Cut) × (front_of input (state 0 3 0 true) ≡ Cut) × (front_of input (state 6 12 0 true) ≡ TooLarge 7)
 unfolding all input
 fronts = (refl, refl, refl, refl)
 
@@ -93,6 +93,6 @@ out : List ℕ
 out = replicate 12 32
 
 -- a byte is left unread when the input has ended, or none is
-cut : (cut_in (state 0 1 0 0 false) (buffer out 0) ≡ buffer (bytes "bad record\n ") 11) × (cut_in (state 1 1 0 3 false) (buffer out 3) ≡ buffer out 3)
+cut : (cut_in (state 0 1 0 false) (buffer out 0) ≡ buffer (bytes "bad record\n ") 11) × (cut_in (state 1 1 0 false) (buffer out 3) ≡ buffer out 3)
 unfolding all out
 cut = (refl, refl)

@@ -7,8 +7,8 @@ use Rattle.records.specs.declared.input.State.{State}
 use Rattle.records.specs.declared.input.Front.{Front}
 use Rattle.records.specs.declared.input.Front.TheVariants.{Whole, TooLarge, Cut}
 
-abbrev pub state : ℕ → ℕ → ℕ → ℕ → Bool → State
-state from have skip at more = record { from = from; have = have; skip = skip; at = at; more = more }
+abbrev pub state : ℕ → ℕ → ℕ → Bool → State
+state from have skip more = record { from = from; have = have; skip = skip; more = more }
 
 -- the unread bytes of a buffer: before which place, and from which place on
 abbrev pub unread_to : State → List ℕ → ℕ
@@ -46,7 +46,6 @@ pub record Refilled (s : State) (l : List ℕ) (s' : State) (l' : List ℕ) : Ty
   pub from : s'.from ≤ s'.have
   pub have : s'.have ≤ length l
   pub passed : s'.from + s'.skip ≡ s.skip
-  pub at : s'.at ≡ s.at
 
 -- what is left unread when the input has ended is a record that was cut
 abbrev pub cut_in : State → Buffer → Buffer

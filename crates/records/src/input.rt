@@ -1,12 +1,12 @@
 // Standard input, read through a buffer that holds at least one whole record.
 ghost use Rattle.std.specs.Prelude.{◌≡◌, ◌-◌, ◌≤◌, length, take, drop};
-ghost use Rattle.printing.specs.Printing.{buffer};
+ghost use Rattle.printing.specs.Printing.{held};
 ghost use Rattle.records.specs.Input.{front_in, front_of, InBuffer, Refilled, cut_in};
 
 use crate::lines::put_bad_record;
 use crate::parts::field;
 use console::U32_BYTES;
-use printing::{STDIN_FILENO, least};
+use printing::{Out, STDIN_FILENO};
 
 // Holds the largest record that a letter may have: two slices of 98,304 u32, a text, and some fields. A larger one is passed over.
 pub const INPUT_BYTES: usize = 1_048_576;
@@ -21,8 +21,6 @@ pub struct State {
     pub have: usize,
     // How many of the unread bytes and of those that are still to come are to be passed over.
     pub skip: usize,
-    // How many bytes of the output's buffer are full.
-    pub at: usize,
     // Whether there may be more to read.
     pub more: bool,
 }
@@ -62,8 +60,8 @@ pub fn at_front(input: &[u8], s: State) -> Front
     ensures value { result ≡ front_of input.now s }
     ensures in_buffer { InBuffer result (length input.now) }
 {
-    let to = least(s.have, input.len());
-    let from = least(s.from, to);
+    let to = s.have.min(input.len());
+    let from = s.from.min(to);
     front_in(input, from, to)
 }
 
@@ -76,12 +74,7 @@ fn shift(bytes: &mut [u8], from: usize, to: usize)
     if from == 0 {
         return;
     }
-    let n = to - from;
-    let mut i = 0;
-    while i < n {
-        bytes[i] = bytes[from + i];
-        i += 1;
-    }
+    bytes.copy_within(from..to, 0);
 }
 
 // Moves the unread bytes to the front, and fills the room behind them with what is still to be read. No byte comes where there
@@ -89,13 +82,13 @@ fn shift(bytes: &mut [u8], from: usize, to: usize)
 pub fn refill(input: &mut [u8], mut s: State) -> State
     ensures { Refilled s input.old result input.new }
 {
-    let to = least(s.have, input.len());
-    let from = least(s.from, to);
+    let to = s.have.min(input.len());
+    let from = s.from.min(to);
     shift(input, from, to);
     let left = to - from;
     let count = io::read_full(STDIN_FILENO, &mut input[left..]);
     let have = left + count;
-    let passed = least(s.skip, have);
+    let passed = s.skip.min(have);
     s.from = passed;
     s.have = have;
     s.skip = s.skip - passed;
@@ -104,12 +97,57 @@ pub fn refill(input: &mut [u8], mut s: State) -> State
 }
 
 // What is left unread when the input has ended is a record that was cut.
-pub fn put_cut_record(out: &mut [u8], s: State) -> usize
-    ensures { buffer out.new result ≡ cut_in s (buffer out.old s.at) }
+pub fn put_cut_record(out: &mut Out, s: State)
+    ensures same_bytes { out.new.bytes.ghost_name ≡ out.old.bytes.ghost_name }
+    ensures holds { held out.new ≡ cut_in s (held out.old) }
 {
     if s.from < s.have {
-        put_bad_record(out, s.at)
-    } else {
-        s.at
+        put_bad_record(out);
     }
+}
+
+// Answers the record at the front of the unread input if it is there whole, and else reads on.
+fn turn<F: Fn(&[u8], &mut Out)>(input: &mut [u8], out: &mut Out, mut s: State, answer: &F) -> State
+    requires { F.IsAlwaysCallable answer.now }
+{
+    match at_front(input, s) {
+        Front::Whole(start, end) => {
+            answer(&input[start..end], out);
+            s.from = end;
+            s
+        },
+        Front::TooLarge(skip) => {
+            put_bad_record(out);
+            s.from = s.have;
+            s.skip = skip;
+            s
+        },
+        Front::Cut => refill(input, s),
+    }
+}
+
+// Answers the records on standard input one after the other, each given what follows its count, and writes the answers out.
+// Nothing says that the input ends, so the turns are counted to a number that no run uses up.
+pub fn answer_records<F: Fn(&[u8], &mut Out)>(
+    input: &mut [u8; INPUT_BYTES],
+    bytes: &mut [u8; OUT_BYTES],
+    answer: F,
+)
+    requires { F.IsAlwaysCallable answer }
+{
+    let mut out = Out::new(bytes);
+    let mut s = State {
+        from: 0,
+        have: 0,
+        skip: 0,
+        more: true,
+    };
+    for _turn in 0..u64::MAX {
+        if !s.more {
+            break;
+        }
+        s = turn(input, &mut out, s, &answer);
+    }
+    put_cut_record(&mut out, s);
+    out.flush();
 }

@@ -4,7 +4,6 @@ ghost use Rattle.console.specs.Console.{u32_at};
 ghost use Rattle.records.specs.Records.{has_text_at};
 
 use console::{U32_BYTES, u32_at};
-use printing::least;
 
 // A record with a longer text, or with more stored bytes, is too large.
 const MAX_TEXT: usize = 131_072;
@@ -31,8 +30,7 @@ pub fn field(bytes: &[u8], at: usize) -> usize
 pub fn behind(bytes: &[u8], at: usize) -> &[u8]
     ensures { result.now ≡ drop at bytes.now }
 {
-    let from = least(at, bytes.len());
-    &bytes[from..]
+    &bytes[at.min(bytes.len())..]
 }
 
 // Whether a text that isn't too long stands from a place on.

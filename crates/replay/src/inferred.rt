@@ -1,27 +1,25 @@
 // The letter `i`: what infer_type answers for a text. No fields.
 use infer_type::Inferred;
-use printing::{put, put_spaced};
+use printing::Out;
 use records::lines::{put_bad_record, put_three};
 use records::parts::{FIRST, behind, has_text};
 
-fn put_inferred(out: &mut [u8], at: usize, inferred: Inferred) -> usize {
-    let end = put_three(
+fn put_inferred(out: &mut Out, inferred: Inferred) {
+    put_three(
         out,
-        at,
         inferred.number as usize,
         inferred.place,
         inferred.kind as usize,
     );
-    let end = put_spaced(out, end, inferred.dimension as usize);
-    put(out, end, b"\n")
+    out.put_spaced(inferred.dimension as usize);
+    out.put(b"\n");
 }
 
 // The line of a record of this letter.
-pub(crate) fn answer(record: &[u8], out: &mut [u8], at: usize) -> usize {
+pub(crate) fn answer(record: &[u8], out: &mut Out) {
     if has_text(record, FIRST) {
-        let inferred = infer_type::infer_type(behind(record, FIRST));
-        put_inferred(out, at, inferred)
+        put_inferred(out, infer_type::infer_type(behind(record, FIRST)));
     } else {
-        put_bad_record(out, at)
+        put_bad_record(out);
     }
 }

@@ -18,66 +18,30 @@ mod reading;
 mod tokens;
 mod writing;
 
-use printing::flush;
-use records::input::{Front, INPUT_BYTES, OUT_BYTES, State, at_front, put_cut_record, refill};
+use printing::Out;
+use records::input::{INPUT_BYTES, OUT_BYTES, answer_records};
 use records::lines::put_bad_record;
 use tokens::Asking;
 
 // The line of a record, given what follows its count.
-fn answer(record: &[u8], out: &mut [u8], at: usize) -> usize {
+fn answer(record: &[u8], out: &mut Out) {
     if record.len() == 0 {
-        return put_bad_record(out, at);
+        put_bad_record(out);
+        return;
     }
     match record[0] {
-        b't' => tokens::answer(record, Asking::Take, out, at),
-        b'p' => tokens::answer(record, Asking::LookAndTake, out, at),
-        b'r' => reading::answer(record, out, at),
-        b'w' => writing::answer(record, out, at),
-        b's' => checking::answer(record, out, at),
-        b'i' => inferred::answer(record, out, at),
-        _ => put_bad_record(out, at),
+        b't' => tokens::answer(record, Asking::Take, out),
+        b'p' => tokens::answer(record, Asking::LookAndTake, out),
+        b'r' => reading::answer(record, out),
+        b'w' => writing::answer(record, out),
+        b's' => checking::answer(record, out),
+        b'i' => inferred::answer(record, out),
+        _ => put_bad_record(out),
     }
-}
-
-// Answers the record at the front of the unread input if it is there whole, and else reads on.
-fn turn(input: &mut [u8], out: &mut [u8], mut s: State) -> State {
-    match at_front(input, s) {
-        Front::Whole(start, end) => {
-            s.at = answer(&input[start..end], out, s.at);
-            s.from = end;
-            s
-        },
-        Front::TooLarge(skip) => {
-            s.at = put_bad_record(out, s.at);
-            s.from = s.have;
-            s.skip = skip;
-            s
-        },
-        Front::Cut => refill(input, s),
-    }
-}
-
-// Nothing says that the input ends, so the turns are counted down from a number that no run uses up. The buffers
-// come as arrays, whose types tell their lengths: lent as slices, the proof of `main` would have to count them out.
-fn run(input: &mut [u8; INPUT_BYTES], out: &mut [u8; OUT_BYTES]) {
-    let mut s = State {
-        from: 0,
-        have: 0,
-        skip: 0,
-        at: 0,
-        more: true,
-    };
-    let mut turns = u64::MAX;
-    while turns > 0 && s.more {
-        s = turn(input, out, s);
-        turns -= 1;
-    }
-    let at = put_cut_record(out, s);
-    flush(out, at);
 }
 
 fn main() {
     let mut input = [0u8; INPUT_BYTES];
-    let mut out = [0u8; OUT_BYTES];
-    run(&mut input, &mut out);
+    let mut bytes = [0u8; OUT_BYTES];
+    answer_records(&mut input, &mut bytes, answer);
 }

@@ -1,6 +1,6 @@
 // The letters `t` and `p`: a cursor is put at a place of a text, and so many tokens are taken. Fields: place, count.
 use crate::found::same;
-use printing::put;
+use printing::Out;
 use records::lines::put_bad_record;
 use records::parts::{FIRST, SECOND, THIRD, behind, field, has_text};
 use shown_tokens::put_found;
@@ -67,48 +67,34 @@ fn ask_one(cursor: Cursor, text: &[u8], asking: Asking) -> Asked {
 
 // What was taken, with ` !` behind it if a look saw something else. No right line has that: by the tokenizer's
 // contracts a look sees what is taken next.
-fn put_asked(out: &mut [u8], at: usize, asked: Asked) -> usize {
-    let found = asked.found;
-    let end = put_found(out, at, found);
-    if asked.agreed {
-        end
-    } else {
-        put(out, end, b" !")
+fn put_asked(out: &mut Out, asked: Asked) {
+    put_found(out, asked.found);
+    if !asked.agreed {
+        out.put(b" !");
     }
 }
 
 // So many tokens from a cursor on, with a space between.
-fn put_tokens(
-    text: &[u8],
-    from: Cursor,
-    count: usize,
-    asking: Asking,
-    out: &mut [u8],
-    at: usize,
-) -> usize {
+fn put_tokens(out: &mut Out, text: &[u8], from: Cursor, count: usize, asking: Asking) {
     let mut cursor = from;
-    let mut left = count;
-    let mut end = at;
-    while left > 0 {
-        let asked = ask_one(cursor, text, asking);
-        end = put_asked(out, end, asked);
-        cursor = asked.next;
-        left -= 1;
-        if left > 0 {
-            end = put(out, end, b" ");
+    for i in 0..count {
+        if 0 < i {
+            out.put(b" ");
         }
+        let asked = ask_one(cursor, text, asking);
+        put_asked(out, asked);
+        cursor = asked.next;
     }
-    end
 }
 
 // The line of a record of one of these letters.
-pub(crate) fn answer(record: &[u8], asking: Asking, out: &mut [u8], at: usize) -> usize {
+pub(crate) fn answer(record: &[u8], asking: Asking, out: &mut Out) {
     if has_text(record, THIRD) {
         let cursor = Cursor::new(field(record, PLACE));
         let count = field(record, COUNT);
-        let end = put_tokens(behind(record, THIRD), cursor, count, asking, out, at);
-        put(out, end, b"\n")
+        put_tokens(out, behind(record, THIRD), cursor, count, asking);
+        out.put(b"\n");
     } else {
-        put_bad_record(out, at)
+        put_bad_record(out);
     }
 }

@@ -1,5 +1,6 @@
 // The letter `L`: the stored reader, lent two slices that are full of ones. Fields: version, node slice length, number
 // slice length.
+use printing::Out;
 use records::lines::{put_bad_record, put_read};
 use records::parts::{SECOND, behind};
 use records::slices::{MAX_SLICE, lent};
@@ -23,32 +24,25 @@ fn read_and_put(
     edition: Edition,
     nodes: &mut [u32],
     numbers: &mut [u32],
-    out: &mut [u8],
-    at: usize,
-) -> usize {
+    out: &mut Out,
+) {
     let answer = read_version(data, edition, nodes, numbers);
-    put_read(out, at, answer, nodes, numbers)
+    put_read(out, answer, nodes, numbers);
 }
 
 // The line of a record of this letter.
-pub(crate) fn answer(record: &[u8], edition: Edition, out: &mut [u8], at: usize) -> usize {
+pub(crate) fn answer(record: &[u8], edition: Edition, out: &mut Out) {
     let mut nodes = [u32::MAX; MAX_SLICE];
     let mut numbers = [u32::MAX; MAX_SLICE];
     let slices = behind(record, SECOND);
-    let asked = lent(slices);
-    if asked.fit {
-        let from = asked.text;
-        let node_places = asked.nodes;
-        let number_places = asked.numbers;
-        read_and_put(
-            &slices[from..],
+    match lent(slices) {
+        Some(asked) => read_and_put(
+            &slices[asked.text..],
             edition,
-            &mut nodes[0..node_places],
-            &mut numbers[0..number_places],
+            &mut nodes[0..asked.nodes],
+            &mut numbers[0..asked.numbers],
             out,
-            at,
-        )
-    } else {
-        put_bad_record(out, at)
+        ),
+        None => put_bad_record(out),
     }
 }

@@ -1,5 +1,6 @@
 // The letter `S`: the stored writer, lent the rows of the record and an output that is full of ones. Fields: version, output
 // length, node slice length, number slice length; the rows of both slices stand behind them.
+use printing::Out;
 use records::lines::{put_bad_record, put_written};
 use records::parts::{MAX_OUTPUT, SECOND, THIRD, behind, field};
 use records::slices::{MAX_SLICE, load};
@@ -25,38 +26,32 @@ fn write_and_put(
     numbers: &[u32],
     edition: Edition,
     output: &mut [u8],
-    out: &mut [u8],
-    at: usize,
-) -> usize {
+    out: &mut Out,
+) {
     let answer = write_version(text, nodes, numbers, edition, output);
-    put_written(out, at, answer, output)
+    put_written(out, answer, output);
 }
 
 // The line of a record of this letter.
-pub(crate) fn answer(record: &[u8], edition: Edition, out: &mut [u8], at: usize) -> usize {
+pub(crate) fn answer(record: &[u8], edition: Edition, out: &mut Out) {
     let bytes = field(record, SECOND);
     if MAX_OUTPUT < bytes {
-        return put_bad_record(out, at);
+        put_bad_record(out);
+        return;
     }
     let mut nodes = [0u32; MAX_SLICE];
     let mut numbers = [0u32; MAX_SLICE];
     let mut output = [u8::MAX; MAX_OUTPUT];
     let slices = behind(record, THIRD);
-    let brought = load(slices, &mut nodes, &mut numbers);
-    if brought.fit {
-        let text = brought.text;
-        let node_places = brought.nodes;
-        let number_places = brought.numbers;
-        write_and_put(
-            &slices[text..],
-            &nodes[0..node_places],
-            &numbers[0..number_places],
+    match load(slices, &mut nodes, &mut numbers) {
+        Some(brought) => write_and_put(
+            &slices[brought.text..],
+            &nodes[0..brought.nodes],
+            &numbers[0..brought.numbers],
             edition,
             &mut output[0..bytes],
             out,
-            at,
-        )
-    } else {
-        put_bad_record(out, at)
+        ),
+        None => put_bad_record(out),
     }
 }

@@ -2,54 +2,46 @@
 // start of a number's text or of a word, and L its length.
 #![tactic(auto)]
 
-ghost use Rattle.std.specs.Prelude.{◌≡◌};
-ghost use Rattle.printing.specs.Printing.{buffer, put_all_in};
+ghost use Rattle.printing.specs.Printing.{Prints};
 ghost use Rattle.shown_tokens.specs.Shown.{placed, spanned, shown_token, shown_found};
 
-use printing::{put, put_number};
+use printing::Out;
 use token::{Found, Token};
 
-fn put_placed(out: &mut [u8], at: usize, name: &[u8], place: usize) -> usize
-    ensures { buffer out.new result ≡ put_all_in (placed name.now place) (buffer out.old at) }
+fn put_placed(out: &mut Out, name: &[u8], place: usize)
+    ensures { Prints (placed name.now place) out.old out.new }
 {
-    let named = put(out, at, name);
-    put_number(out, named, place)
+    out.put(name);
+    out.put_number(place);
 }
 
-fn put_spanned(
-    out: &mut [u8],
-    at: usize,
-    name: &[u8],
-    place: usize,
-    start: usize,
-    len: usize,
-) -> usize
-    ensures { buffer out.new result ≡ put_all_in (spanned name.now place start len) (buffer out.old at) }
+fn put_spanned(out: &mut Out, name: &[u8], place: usize, start: usize, len: usize)
+    ensures { Prints (spanned name.now place start len) out.old out.new }
 {
-    let named = put_placed(out, at, name, place);
-    let started = put_placed(out, named, b":", start);
-    put_placed(out, started, b"+", len)
+    put_placed(out, name, place);
+    put_placed(out, b":", start);
+    put_placed(out, b"+", len);
 }
 
-fn put_token(out: &mut [u8], at: usize, place: usize, token: Token) -> usize
-    ensures { buffer out.new result ≡ put_all_in (shown_token place token) (buffer out.old at) }
+fn put_token(out: &mut Out, place: usize, token: Token)
+    ensures { Prints (shown_token place token) out.old out.new }
 {
     match token {
-        Token::Comma => put_placed(out, at, b",@", place),
-        Token::Number(start, len) => put_spanned(out, at, b"number@", place, start, len),
-        Token::ParenClose => put_placed(out, at, b")@", place),
-        Token::ParenOpen => put_placed(out, at, b"(@", place),
-        Token::Word(start, len) => put_spanned(out, at, b"word@", place, start, len),
+        Token::Comma => put_placed(out, b",@", place),
+        Token::Number(start, len) => put_spanned(out, b"number@", place, start, len),
+        Token::ParenClose => put_placed(out, b")@", place),
+        Token::ParenOpen => put_placed(out, b"(@", place),
+        Token::Word(start, len) => put_spanned(out, b"word@", place, start, len),
     }
 }
 
 // Puts what was found.
-pub fn put_found(out: &mut [u8], at: usize, found: Found) -> usize
-    ensures { buffer out.new result ≡ put_all_in (shown_found found) (buffer out.old at) }
+pub fn put_found(out: &mut Out, found: Found)
+    ensures { Prints (shown_found found) out.old out.new }
 {
     match found {
-        Found::NoToken(place) => put_placed(out, at, b"none@", place),
-        Found::BadNumber(place) => put_placed(out, at, b"bad@", place),
-        Found::Is(place, token) => put_token(out, at, place, token),
+        Found::NoToken(place) => put_placed(out, b"none@", place),
+        Found::BadNumber(place) => put_placed(out, b"bad@", place),
+        Found::Is(place, token) => put_token(out, place, token),
     }
 }

@@ -11,7 +11,7 @@ mod ways;
 ghost use Rattle.std.specs.Prelude.{◌≤◌, ◌<◌, length};
 
 use console::{U32_BYTES, u32_at};
-use printing::{STDIN_FILENO, flush, least, put};
+use printing::{Out, STDIN_FILENO};
 use shown_tokens::put_found;
 use token::Found;
 use tokenizer::Cursor;
@@ -37,73 +37,52 @@ fn field(bytes: &[u8], at: usize) -> usize {
 }
 
 // What was found, behind a space.
-fn put_spaced(out: &mut [u8], at: usize, found: Found) -> usize {
-    let end = put(out, at, b" ");
-    put_found(out, end, found)
+fn put_spaced(out: &mut Out, found: Found) {
+    out.put(b" ");
+    put_found(out, found);
 }
 
 // So many tokens from a place on, each behind a space.
-fn put_tokens(
-    out: &mut [u8],
-    at: usize,
-    text: &[u8],
-    place: usize,
-    count: usize,
-    way: Way,
-) -> usize {
+fn put_tokens(out: &mut Out, text: &[u8], place: usize, count: usize, way: Way) {
     let mut cursor = Cursor::new(place);
-    let mut end = at;
     for i in 0..count {
         let step = step_by(way, text, cursor, place, i);
-        end = put_spaced(out, end, step.found);
+        put_spaced(out, step.found);
         cursor = step.next;
     }
-    end
 }
 
 // The line of one way, behind its name.
-fn put_line(out: &mut [u8], at: usize, record: &[u8], name: &[u8], way: Way) -> usize {
-    let from = least(TEXT, record.len());
+fn put_line(out: &mut Out, record: &[u8], name: &[u8], way: Way) {
+    let from = TEXT.min(record.len());
     let place = field(record, PLACE);
     let count = field(record, COUNT);
-    let named = put(out, at, name);
-    let end = put_tokens(out, named, &record[from..], place, count, way);
-    put(out, end, b"\n")
+    out.put(name);
+    put_tokens(out, &record[from..], place, count, way);
+    out.put(b"\n");
 }
 
 // By a reader that is lent.
-fn put_lent(out: &mut [u8], at: usize, record: &[u8]) -> usize {
-    let end = put_line(out, at, record, b"next:", Way::Next);
-    let end = put_line(out, end, record, b"peek:", Way::Peek(Look::First));
-    let end = put_line(out, end, record, b"peek again:", Way::Peek(Look::Second));
-    put_line(
-        out,
-        end,
-        record,
-        b"next after peeks:",
-        Way::Peek(Look::Taken),
-    )
+fn put_lent(out: &mut Out, record: &[u8]) {
+    put_line(out, record, b"next:", Way::Next);
+    put_line(out, record, b"peek:", Way::Peek(Look::First));
+    put_line(out, record, b"peek again:", Way::Peek(Look::Second));
+    put_line(out, record, b"next after peeks:", Way::Peek(Look::Taken));
 }
 
 // By a reader that is passed by value.
-fn put_by_value(out: &mut [u8], at: usize, record: &[u8]) -> usize {
-    let end = put_line(out, at, record, b"take:", Way::Take);
-    let end = put_line(out, end, record, b"look:", Way::Look(Look::First));
-    let end = put_line(out, end, record, b"look again:", Way::Look(Look::Second));
-    put_line(
-        out,
-        end,
-        record,
-        b"take after looks:",
-        Way::Look(Look::Taken),
-    )
+fn put_by_value(out: &mut Out, record: &[u8]) {
+    put_line(out, record, b"take:", Way::Take);
+    put_line(out, record, b"look:", Way::Look(Look::First));
+    put_line(out, record, b"look again:", Way::Look(Look::Second));
+    put_line(out, record, b"take after looks:", Way::Look(Look::Taken));
 }
 
 // The lines of a record that has an answer.
-fn put_lines(out: &mut [u8], at: usize, record: &[u8]) -> usize {
-    let end = put_lent(out, at, record);
-    let end = put_by_value(out, end, record);
-    put_line(out, end, record, b"nth:", Way::Nth)
+fn put_lines(out: &mut Out, record: &[u8]) {
+    put_lent(out, record);
+    put_by_value(out, record);
+    put_line(out, record, b"nth:", Way::Nth);
 }
 
 // Whether a record is there whole and of the right letter.
@@ -114,11 +93,11 @@ fn is_good(record: &[u8]) -> bool {
     (record.len() - U32_BYTES == field(record, 0)) & (record[LETTER] == b't')
 }
 
-fn put_record(out: &mut [u8], at: usize, record: &[u8]) -> usize {
+fn put_record(out: &mut Out, record: &[u8]) {
     if is_good(record) {
-        put_lines(out, at, record)
+        put_lines(out, record);
     } else {
-        put(out, at, b"bad record\n")
+        out.put(b"bad record\n");
     }
 }
 
@@ -139,33 +118,26 @@ fn record_end(input: &[u8], from: usize) -> usize
     from + U32_BYTES + count
 }
 
-fn put_records(out: &mut [u8], input: &[u8]) -> usize {
+fn put_records(out: &mut Out, input: &[u8]) {
     // Kept (3): each turn goes on by as many bytes as its record has, so there is no range to count.
     let mut from = 0;
-    let mut at = 0;
     while from < input.len() {
         let end = record_end(input, from);
-        at = put_record(out, at, &input[from..end]);
+        put_record(out, &input[from..end]);
         from = end;
     }
-    at
-}
-
-// What was read stands at the front of the input's buffer.
-fn put_read(out: &mut [u8], input: &[u8], count: usize) -> usize {
-    let have = least(count, input.len());
-    put_records(out, &input[0..have])
 }
 
 // The buffers come as arrays, whose types tell their lengths: lent as slices, the proof of `main` would have to count them out.
-fn run(input: &mut [u8; INPUT_BYTES], out: &mut [u8; OUT_BYTES]) {
+fn run(input: &mut [u8; INPUT_BYTES], bytes: &mut [u8; OUT_BYTES]) {
     let count = io::read_full(STDIN_FILENO, input);
-    let at = put_read(out, input, count);
-    flush(out, at);
+    let mut out = Out::new(bytes);
+    put_records(&mut out, &input[..count]);
+    out.flush();
 }
 
 fn main() {
     let mut input = [0u8; INPUT_BYTES];
-    let mut out = [0u8; OUT_BYTES];
-    run(&mut input, &mut out);
+    let mut bytes = [0u8; OUT_BYTES];
+    run(&mut input, &mut bytes);
 }

@@ -1,8 +1,6 @@
 -- `put_line` meets its contract: its pieces are put one after the other.
-use mathlib.Core.Path.{◌∙◌, ap}
-use Rattle.printing.specs.Printing.{put_in, put_all_in, spaced}
+use Rattle.printing.proofs.Buffers.{prints_then}
 use Rattle.console.proofs.put_line.Goals as goal
 
 pub returns : goal.returns
-unfolding put_all_in
-returns c = c.put.ensures ∙ ap (put_in c.args.end.now) (c.put_spaced-two.ensures ∙ ap (put_all_in (spaced c.args.second)) (c.put_spaced-one.ensures ∙ ap (put_all_in (spaced c.args.first)) c.put-named.ensures))
+returns c = prints_then c.put.ensures (prints_then c.put_spaced.ensures (prints_then c.put_spaced-2.ensures c.put-2.ensures))

@@ -1,5 +1,5 @@
 -- `u32_at` meets its contract: its four bytes are there, or it is 0.
-use native.Mathlib.Omega.{arith}
+use Rattle.std.proofs.Common.{arith}
 use Rattle.console.proofs.Numbers.{u32_cut, u32_whole}
 use Rattle.console.proofs.u32_at.Goals as goal
 
@@ -10,4 +10,4 @@ pub returns-then-bytes-at : goal.returns-then-bytes-at
 returns-then-bytes-at c = u32_cut _ _ (omega arith)
 
 pub returns : goal.returns
-returns c = u32_whole c.args.bytes.now _ (omega arith) c.both.ensures.value c.both-2.ensures.value
+returns c = u32_whole c.args.bytes.now c.args.at (omega arith) c.from_le_bytes.ensures

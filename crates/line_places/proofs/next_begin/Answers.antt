@@ -1,18 +1,11 @@
--- `next_begin` meets its contract.
-use borrow.Author.Rules.{rules}
-use mathlib.Core.Path.{refl, sym, ◌∙◌}
-use Rattle.scan.proofs.Runs.{on, stop, past}
+-- `next_begin` meets its contract: no place is past the end.
+use Rattle.std.proofs.Common.{rules, ◌≡◌, arith}
+use Rattle.scan.specs.Runs.{first_not}
+use Rattle.scan.proofs.Runs.{not_past}
 use Rattle.line_places.specs.Lines.{goes_on}
 use Rattle.line_places.proofs.next_begin.Goals as goal
 
-pub loop-i-init : goal.loop-i-init
-loop-i-init c = refl
-
-pub loop-i-preserved : goal.loop-i-preserved
-loop-i-preserved c = on goes_on _ _ (search rules) (sym c.goes_on.ensures ∙ c.if-goes_on.true) ∙ c.loop-i.invariant
-
-pub returns-else-goes_on : goal.returns-else-goes_on
-returns-else-goes_on c = record { value = sym (stop goes_on _ _ (search rules) (sym c.goes_on.ensures ∙ c.if-goes_on.false)) ∙ c.loop-i.invariant; upper_bound = search rules }
-
-pub returns : goal.returns
-returns c = record { value = sym (past goes_on _ _ (search rules)) ∙ c.loop-i.invariant; upper_bound = search rules }
+pub returns-clause-upper_bound : goal.returns-clause-upper_bound
+returns-clause-upper_bound c =
+    let e : c.first_not.result ≡ first_not goes_on c.args.text.now c.args.place = search rules in
+    omega (arith, e, not_past goes_on c.args.text.now c.args.place)

@@ -1,13 +1,11 @@
--- `places_left` meets its contract. The loop's invariant: what is counted, with what is left to count, is the whole.
-use borrow.Author.Rules.{rules}
-use Rattle.records.proofs.Places.{left_first, left_on, left_all}
+-- `places_left` meets its contract: what the test finds behind the used part is what is left over.
+use Rattle.std.proofs.Common.{rules, ◌≡◌, ◌∙◌, sym, ◌-◌, length, take, drop, not, eqb}
+use Rattle.std.specs.List.{count_by}
+use Rattle.records.proofs.Places.{count_is, left_from}
 use Rattle.records.proofs.lines.places_left.Goals as goal
 
-pub loop-i-init : goal.loop-i-init
-loop-i-init c = (left_first _ _ _ c.least-i.ensures.value, search rules, search rules)
-
-pub loop-i-preserved : goal.loop-i-preserved
-loop-i-preserved c = (rw c.one_unless_zero-count.ensures.value (left_on _ _ _ _ c.loop-i-test.true c.loop-i.invariant.0), search rules, search rules)
-
-pub returns : goal.returns
-returns c = record { value = left_all _ _ _ _ c.loop-i-test.false c.loop-i.invariant.0; upper_bound = search rules }
+pub returns-clause-value : goal.returns-clause-value
+returns-clause-value c =
+    let all = c.args.slice.now in
+    let e : c.count.result ≡ count_by (λ n. not (eqb n 0)) (take (length all - c.min.result) (drop c.min.result all)) = search rules in
+    e ∙ sym (count_is _) ∙ left_from _ _ _ c.min.ensures

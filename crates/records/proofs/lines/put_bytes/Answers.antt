@@ -1,17 +1,15 @@
--- `put_bytes` meets its contract. The loop's invariant: so many bytes are put.
-use native.Mathlib.Omega.{arith}
-use borrow.Author.Rules.{rules}
+-- `put_bytes` meets its contract: byte after byte is put.
+use Rattle.std.proofs.Common.{[]}
+use Rattle.printing.proofs.Buffers.{prints_none}
+use Rattle.records.specs.Lines.{hex_byte}
 use Rattle.records.proofs.Pieces.{each_none, each_on, each_all}
 use Rattle.records.proofs.lines.put_bytes.Goals as goal
 
-pub loop-i-init : goal.loop-i-init
-loop-i-init c = (each_none _ _ _, search rules, search rules)
+pub loop-b-init : goal.loop-b-init
+loop-b-init c = each_none [] hex_byte _ (prints_none _)
 
-pub loop-i-preserved : goal.loop-i-preserved
-loop-i-preserved c = (each_on _ _ _ _ (omega arith) c.loop-i.invariant.0 c.put_byte-end.ensures, search rules, search rules)
-
-pub shape_of-out : goal.shape_of-out
-shape_of-out c = c.loop-i.invariant.1
+pub loop-b-preserved : goal.loop-b-preserved
+loop-b-preserved c = each_on [] hex_byte _ _ c.loop-b-test.true c.loop-b.invariant c.put_byte.ensures
 
 pub returns : goal.returns
-returns c = each_all _ _ _ _ _ _ c.least-last.ensures.value c.loop-i.invariant.2 c.loop-i-test.false c.loop-i.invariant.0
+returns c = each_all [] hex_byte c.args.output.now _ _ _ c.min.ensures c.loop-b-test.false c.loop-b.invariant

@@ -1,7 +1,6 @@
 -- `put_move_numbers` meets its contract: its numbers are put one after the other.
-use Rattle.records.proofs.Pieces.{move_numbers_put}
-use Rattle.printing.specs.Printing.{buffer}
+use Rattle.printing.proofs.Buffers.{prints_then}
 use Rattle.records.proofs.lines.put_move_numbers.Goals as goal
 
 pub returns : goal.returns
-returns c = let given = c.args in move_numbers_put given.read given.length (buffer given.out.now given.at) c.put_three-end.ensures c.put_spaced-end.ensures c.put_spaced.ensures
+returns c = prints_then c.put_three.ensures (prints_then c.put_spaced.ensures c.put_spaced-2.ensures)

@@ -1,6 +1,6 @@
--- `put_numbers` meets its contract: its pieces are put one after the other.
-use Rattle.records.proofs.Pieces.{then_put}
+-- `put_numbers` meets its contract: its numbers are put one after the other.
+use Rattle.printing.proofs.Buffers.{prints_then}
 use Rattle.records.proofs.lines.put_numbers.Goals as goal
 
 pub returns : goal.returns
-returns c = then_put _ _ _ c.put_three-end.ensures c.put_spaced.ensures
+returns c = prints_then c.put_three.ensures c.put_spaced.ensures

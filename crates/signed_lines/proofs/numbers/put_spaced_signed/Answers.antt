@@ -5,4 +5,4 @@ use Rattle.signed_lines.specs.Signed.{signed}
 use Rattle.signed_lines.proofs.numbers.put_spaced_signed.Goals as goal
 
 pub returns : goal.returns
-returns c = after_space signed c.args.number (back _ c.ranges.number) _ c.put-end.ensures c.put_signed.ensures
+returns c = after_space signed c.args.number (back _ c.ranges.number) c.put.ensures c.put_signed.ensures

@@ -5,4 +5,4 @@ use Rattle.signed_lines.specs.Signed.{units}
 use Rattle.signed_lines.proofs.numbers.put_spaced_units.Goals as goal
 
 pub returns : goal.returns
-returns c = after_space units c.args.number (back _ c.ranges.number) _ c.put-end.ensures c.put_units.ensures
+returns c = after_space units c.args.number (back _ c.ranges.number) c.put.ensures c.put_units.ensures

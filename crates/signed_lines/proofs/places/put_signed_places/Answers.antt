@@ -1,19 +1,13 @@
--- `put_signed_places` meets its contract. The loop's invariant: so many places are put.
-use mathlib.Core.Path.{◌∙◌}
-use native.Mathlib.Omega.{arith}
-use Rattle.signed_lines.proofs.Sizes.{back}
+-- `put_signed_places` meets its contract: place after place is put.
+use Rattle.std.proofs.Common.{rules}
 use Rattle.signed_lines.proofs.Pieces.{each_none, each_on, each_all}
-use borrow.Author.Rules.{rules}
 use Rattle.signed_lines.proofs.places.put_signed_places.Goals as goal
 
-pub loop-i-init : goal.loop-i-init
-loop-i-init c = (each_none _ _, search rules, search rules)
+pub loop-n-init : goal.loop-n-init
+loop-n-init c = each_none _ _
 
-pub loop-i-preserved : goal.loop-i-preserved
-loop-i-preserved c = (each_on _ _ _ _ (omega arith) (back _ (record { sfits = c.number_at.type_inv }) ∙ c.number_at.ensures) c.loop-i.invariant.0 c.put_spaced_signed-end.ensures, search rules, search rules)
-
-pub shape_of-out : goal.shape_of-out
-shape_of-out c = c.loop-i.invariant.1
+pub loop-n-preserved : goal.loop-n-preserved
+loop-n-preserved c = each_on _ _ c.loop-n-test.true (search rules) c.loop-n.invariant c.put_spaced_signed.ensures
 
 pub returns : goal.returns
-returns c = each_all _ _ _ _ _ c.least-last.ensures.value c.loop-i.invariant.2 c.loop-i-test.false c.loop-i.invariant.0
+returns c = each_all c.args.table.now _ _ _ c.min.ensures c.loop-n-test.false c.loop-n.invariant

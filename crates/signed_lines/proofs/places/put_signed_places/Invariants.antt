@@ -1,13 +1,7 @@
--- What `signed_lines::put_signed_places` keeps true in its loops, and what falls.
-use Prim.Native.Nat.{◌-◌, ◌≤◌}
-use mathlib.Core.Path.{◌≡◌}
-use lib.ListN.{length}
-use Rattle.printing.specs.Printing.{buffer, put_all_in}
+-- What `signed_lines::put_signed_places` keeps true in its loop: the places so far are put.
+use Rattle.printing.specs.Printing.{Prints}
 use Rattle.signed_lines.specs.Places.{each_signed}
 use Rattle.signed_lines.proofs.places.put_signed_places.Given as goal
 
-abbrev pub invariant-loop-i : goal.invariant-loop-i
-invariant-loop-i l = (buffer l.out l.end ≡ put_all_in (each_signed l.table l.i) (buffer l.initial.out l.at)) × (length l.out ≡ length l.initial.out) × (l.i ≤ l.last)
-
-abbrev pub decreases-loop-i : goal.decreases-loop-i
-decreases-loop-i l = l.last - l.i
+abbrev pub invariant-loop-n : goal.invariant-loop-n
+invariant-loop-n l = Prints (each_signed l.places l.n-index) l.fn.out l.out

@@ -1,8 +1,0 @@
--- What `replay::run` keeps true in its loops, and what falls.
-use Rattle.replay.proofs.run.Given as goal
-
-abbrev pub invariant-loop-turns : goal.invariant-loop-turns
-invariant-loop-turns l = Unit {0}
-
-abbrev pub decreases-loop-turns : goal.decreases-loop-turns
-decreases-loop-turns l = l.turns
