@@ -92,6 +92,7 @@ fn put_one(out: &mut Out, bytes: &[u8], shown: Shown)
 pub(crate) fn put_part(out: &mut Out, part: &[u8], under: bool)
     ensures { Prints (pieces under part.now) out.old out.new }
 {
+    // Kept (3): each turn goes on where its character ends, so there is no range to count.
     let mut i = 0;
     while i < part.len() {
         let next = next_begin(part, i + 1);

@@ -13,6 +13,7 @@ const OUTPUT_BYTES: usize = 65_536;
 
 // The record at a place begins with its count, and a text of so many bytes follows; both are cut where the input ends.
 fn list_all(input: &[u8], nodes: &mut [u32], numbers: &mut [u32], out: &mut Out) {
+    // Kept (3): each turn goes on by as many bytes as its record has, so there is no range to count.
     let mut at = 0;
     while at < input.len() {
         let start = at + U32_BYTES.min(input.len() - at);

@@ -36,6 +36,7 @@ pub fn put_left_over(out: &mut Out, count: usize)
 }
 
 // How many places from `from` on aren't zero.
+// Kept (2): `bytes_left` differs in the element alone; one function for both would take a bound that knows zero, and each is one chain.
 fn places_left(slice: &[u32], from: usize) -> usize
     ensures value { result ≡ left_over slice.now from }
     ensures upper_bound { result ≤ length slice.now }
