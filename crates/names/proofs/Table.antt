@@ -4,12 +4,18 @@ use Prim.Native.Nat.{ℕ}
 use mathlib.Core.Path.{◌≡◌, refl, ap}
 use mathlib.Core.Bool.{true, false≢true}
 use Rattle.std.specs.Prelude.{Option, Some, None}
-use mathlib.Core.List.{List}
+use mathlib.Core.List.{List, flat_map}
+use Rattle.lists.specs.Lists.{every}
 use Rattle.words.specs.Words.{same_word}
 use Rattle.names.specs.declared.Name.{Name}
-use Rattle.names.specs.Names.{spellings, meaning}
+use Rattle.names.specs.Names.{spellings, meaning, lookup}
 use Rattle.names.specs.Table.{IsSpelling, is_known, each_once}
 use Rattle.names.proofs.Lookup.{finds, found}
+
+-- each spelling of the table means a name
+pub all_known : every (λ row. is_known (meaning row.1)) spellings ≡ true
+unfolding spellings flat_map every meaning lookup same_word
+all_known = refl
 
 module _ (w : List ℕ) (name : Name) where
   -- (a) a word that is one of the spellings means what its row says

@@ -5,8 +5,9 @@ use mathlib.Core.Path.{◌≡◌}
 use mathlib.Core.List.{List}
 use Rattle.lists.specs.One.{One}
 use Rattle.lists.proofs.One.{one}
+use Rattle.token.specs.declared.Found.{Found}
 use Rattle.tokenizer.specs.declared.Cursor.{Cursor}
-use Rattle.tokenizer.specs.Tokens.{cursor_at, take_at, look_at, pass_comma, pass_open, closes_at}
+use Rattle.tokenizer.specs.Tokens.{cursor_at, hold, take_at, look_at, pass_comma, pass_open, closes_at}
 
 pub new_one : (place : ℕ) → One (λ r. r ≡ cursor_at place)
 new_one place = one
@@ -25,3 +26,6 @@ pass_open_one text self = one
 
 pub closes_one : (text : List ℕ) (self : Cursor) → One (λ r. r ≡ closes_at text self)
 closes_one text self = one
+
+pub from_one : (found : Found) → One (λ held. held ≡ hold found)
+from_one found = one

@@ -6,10 +6,10 @@ use Rattle.kinds.specs.Kinds.{width}
 use Rattle.store.specs.Rows.{Row, node_over}
 use Rattle.lists.specs.Options.{map_o}
 use Rattle.nodes.specs.declared.Frame.{Frame}
-use Rattle.nodes.specs.Nodes.{above, node_end, node_ends, still_open, at_last, is_allowed, child_kind, numbers_of, meets_node, meets_rows, meets}
+use Rattle.nodes.specs.Nodes.{node_end, node_ends, still_open, at_last, is_allowed, child_kind, numbers_of, meets_node, meets_rows, meets}
 use Rattle.nodes.specs.Examples.{leaf, nest, point, empty_point, store}
 use Rattle.walk.specs.declared.Walk.{Walk}
-use Rattle.walk.specs.Walk.{frames, put_next, walk_at, beginning, passing_leaf, pushing, meeting, wanted_in, wanted_from, entering, has_ended}
+use Rattle.walk.specs.Walk.{frames, no_frame, put_next, walk_at, beginning, passing_leaf, pushing, meeting, wanted_in, wanted_from, entering, has_ended}
 
 -- a walk and its frames, if no row before was ill
 abbrev Standing : Type 0
@@ -25,9 +25,9 @@ give count x [] = x
 give count none (r ∷ rs) = none
 give count (some (w, s)) (r ∷ rs) = give count (on_to (entering s count w r)) rs
 
--- from above the root, with any frames
+-- from above the root, with frames that held zeros
 start : Walk × List Frame
-start = beginning (replicate frames above)
+start = beginning (replicate frames no_frame)
 
 after : ℕ → List Row → Standing
 after count rs = give count (some start) rs
