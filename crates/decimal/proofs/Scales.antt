@@ -15,7 +15,7 @@ use Rattle.scan.specs.Runs.{after_one_at}
 use Rattle.scan.proofs.Runs.{moves, rest_run, rest_one, not_past, one_not_before, one_not_past}
 use Rattle.number.specs.Lexeme.{after_whole, has_digit, is_exponent, is_decimal}
 use Rattle.number.proofs.Plain.{every_append}
-use Rattle.std.specs.Prelude.{Some, None}
+use Rattle.std.specs.Prelude.{Option, Some, None, is_some}
 use Rattle.decimal.specs.declared.Kept.{Kept}
 use Rattle.decimal.specs.declared.Size.{Size}
 use Rattle.decimal.specs.declared.Exponent.{Exponent}
@@ -25,7 +25,7 @@ use Rattle.decimal.specs.Code.{kept, keep_all, Keeps, exponent_of, size_of, Size
 use Rattle.decimal.proofs.Sizes.{SameDigits, keep_both}
 use Rattle.decimal.proofs.Exact.{kept_size_by}
 use Rattle.decimal.proofs.Digits.{leading_every}
-use Rattle.decimal.proofs.Texts.{ends_at, exponent_says, exponent_none}
+use Rattle.decimal.proofs.Texts.{ends_at, exponent_says, exponent_none, some_exponent}
 
 module _ (w : List ℕ) (from : ℕ) (whole : Kept) (kw : Keeps w (kept 0 0 false from) whole) (first : ℕ) (f : first ≡ after_one_at is_point w whole.end) where
   digits_at : rest w whole.end ≡ after_all is_digit (rest w from)
@@ -59,7 +59,6 @@ module _ (w : List ℕ) (from : ℕ) (whole : Kept) (kw : Keeps w (kept 0 0 fals
     all_at : rest w all.end ≡ after_all is_digit (after_whole (rest w from))
     all_at = ap (rest w) ka.end ∙ rest_run is_digit w first ∙ ap (after_all is_digit) first_at_law
 
-    -- whether it is a decimal: a digit before the point or behind it, and then an exponent or the end
     digit_is : (ltb from whole.end || ltb first all.end) ≡ has_digit (rest w from)
     digit_is = ap₂ ◌||◌ (ap (ltb from) kw.end ∙ moves is_digit w from) (ap (ltb first) ka.end ∙ moves is_digit w first ∙ ap (begins is_digit) first_at_law)
 
@@ -71,10 +70,15 @@ module _ (w : List ℕ) (from : ℕ) (whole : Kept) (kw : Keeps w (kept 0 0 fals
     unfolding is_decimal
     no_exponent e = ap (λ (t : Bool). has_digit (rest w from) && t) (sym (ap (is_exponent is_nil) all_at) ∙ exponent_none (rest w all.end) e) ∙ and-false (has_digit (rest w from))
 
+    -- whether it is a decimal: a digit before the point or behind it, and then an exponent or the end
+    pub decimal_is : (x : Option Exponent) → x ≡ exponent_of (rest w all.end) → ((ltb from whole.end || ltb first all.end) && is_some x) ≡ is_decimal is_nil (rest w from)
+    unfolding is_decimal
+    decimal_is x e = ap₂ ◌&&◌ digit_is (ap is_some e ∙ some_exponent (rest w all.end) ∙ ap (is_exponent is_nil) all_at)
+
     module _ (x : Exponent) (e : Some x ≡ exponent_of (rest w all.end)) where
-      pub decimal_is : (ltb from whole.end || ltb first all.end) ≡ true → is_decimal is_nil (rest w from) ≡ true
+      pub decimal_yes : (ltb from whole.end || ltb first all.end) ≡ true → is_decimal is_nil (rest w from) ≡ true
       unfolding is_decimal
-      decimal_is t = ap₂ ◌&&◌ (sym digit_is ∙ t) (sym (ap (is_exponent is_nil) all_at) ∙ (exponent_says x (rest w all.end) e).good)
+      decimal_yes t = ap₂ ◌&&◌ (sym digit_is ∙ t) (sym (ap (is_exponent is_nil) all_at) ∙ (exponent_says x (rest w all.end) e).good)
 
       lowers_is : x.lowers ≡ begins is_minus (behind_e (rest w from))
       lowers_is = (exponent_says x (after_all is_digit (after_whole (rest w from))) (e ∙ ap exponent_of all_at)).lowers

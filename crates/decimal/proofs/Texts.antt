@@ -18,7 +18,7 @@ use Rattle.scan.proofs.Front.{rest_past, tail_part, nil_at, begins_at}
 use Rattle.scan.proofs.Runs.{rest_one, rest_run, moves, one_not_past}
 use Rattle.number.specs.Lexeme.{is_e, is_digits, is_exponent}
 use Rattle.number.proofs.Plain.{every_append}
-use Rattle.std.specs.Prelude.{Some, None}
+use Rattle.std.specs.Prelude.{Some, None, is_some}
 use Rattle.decimal.specs.declared.Exponent.{Exponent}
 use Rattle.decimal.specs.declared.Size.{Size}
 use Rattle.decimal.specs.Decimal.{leading, value_of, is_minus}
@@ -104,13 +104,16 @@ exponent_says x l e = go (is_exponent is_nil l) refl e
         record { good = h; lowers = ap (λ (k : Exponent). k.lowers) s; size = ap (λ (k : Exponent). k.size) s }
     go false h q = cc
 
-pub exponent_none : (l : List ℕ) → None ≡ exponent_of l → is_exponent is_nil l ≡ false
+pub some_exponent : (l : List ℕ) → is_some (exponent_of l) ≡ is_exponent is_nil l
 unfolding exponent_of
-exponent_none l e = go (is_exponent is_nil l) refl e
+some_exponent l = go (is_exponent is_nil l)
   where
-    go : (t : Bool) → is_exponent is_nil l ≡ t → None ≡ cond t (Some (exponent (begins is_minus (after_one is_e l)) (min (value_of (leading is_digit (after_one is_sign (after_one is_e l)))) 10000))) None → t ≡ false
-    go true h q = cc
-    go false h q = refl
+    go : (t : Bool) → is_some (cond t (Some (exponent (begins is_minus (after_one is_e l)) (min (value_of (leading is_digit (after_one is_sign (after_one is_e l)))) 10000))) None) ≡ t
+    go true = refl
+    go false = refl
+
+pub exponent_none : (l : List ℕ) → None ≡ exponent_of l → is_exponent is_nil l ≡ false
+exponent_none l e = sym (some_exponent l) ∙ ap is_some (sym e)
 
 module _ (w : List ℕ) (at : ℕ) where
   pub exponent_past : length w ≤ at → Some (exponent false 0) ≡ exponent_of (rest w at)
