@@ -5,7 +5,7 @@ ghost use Rattle.std.specs.Prelude.{◌≡◌, true, ◌+◌, ◌≤◌, length 
 ghost use Rattle.lists.specs.Lists.{every};
 ghost use Rattle.words.specs.Words.{starts_word};
 ghost use Rattle.names.specs.Names.{endings, string_of, meaning, ending, is_empty_word, front, after_name};
-ghost use Rattle.names.specs.Letters.{is_capital, letter_at, has_both, packed_of, four_at};
+ghost use Rattle.names.specs.Letters.{is_capital, letter_at, has_both, four_at};
 
 use kinds::{DIM_XY, KIND_LINESTRING, KIND_POINT};
 

@@ -44,7 +44,7 @@ pub fn is_numberlike(b: u8) -> bool
 pub fn skip_blanks(text: &[u8], from: usize) -> usize
     ensures { result ≡ first_not is_blank text.now from }
 {
-    // Kept (3): 01-scope.md, "The form each place takes": "A loop yields by break the place of the first non-blank or the end".
+    // Kept (3): document 01, "The form each place takes": "A loop yields by break the place of the first non-blank or the end".
     let mut i = from;
     loop {
         if text.len() <= i {
@@ -62,7 +62,7 @@ pub fn skip_blanks(text: &[u8], from: usize) -> usize
 pub fn token_end(text: &[u8], from: usize) -> usize
     ensures { result ≡ first_not is_inner text.now from }
 {
-    // Kept (3): 01-scope.md, "The form each place takes": "token scan leaves by label on a marker".
+    // Kept (3): document 01, "The form each place takes": "token scan leaves by label on a marker".
     let mut i = from;
     'scan: loop {
         if text.len() <= i {

@@ -2,7 +2,7 @@
 // look at sixteen bytes, whatever stands behind it, so that the compiler can take all of them at once.
 #![tactic(auto)]
 
-ghost use Rattle.std.specs.Prelude.{◌≡◌, true, cond, ltb, ◌+◌, ◌≤◌, length, take, drop};
+ghost use Rattle.std.specs.Prelude.{◌≡◌, true, ◌+◌, ◌≤◌, length, take, drop};
 ghost use Rattle.number.specs.Lexeme.{is_lexeme, is_plain};
 ghost use Rattle.stored_numbers.specs.Weights.{weight, weigh, sign_width, twos_then_none};
 ghost use Rattle.stored_numbers.specs.Looks.{numbers_seen};

@@ -2,12 +2,12 @@
 #![tactic(auto)]
 
 ghost use Rattle.std.specs.Prelude.{◌≡◌};
-ghost use Rattle.tokenizer.specs.Tokens.{cursor_at, take_at, hold, look_at, is_nothing, is_comma, is_open, is_close_token, place_in, stands_at, pass_comma, pass_open, closes_at};
+ghost use Rattle.tokenizer.specs.Tokens.{cursor_at, take_at, hold, look_at, is_comma, is_open, is_close_token, place_in, stands_at, pass_comma, pass_open, closes_at};
 
 use token::{Found, Token, read_at};
 
 // What was looked at and not yet taken.
-// Kept (1): 01-scope.md, "The form each place takes": "The cursor struct holds an enum: nothing held, no token, bad number with place, or a token with its span".
+// Kept (1): document 01, "The form each place takes": "The cursor struct holds an enum: nothing held, no token, bad number with place, or a token with its span".
 #[derive(Clone, Copy)]
 pub enum Held {
     Nothing,

@@ -1,7 +1,7 @@
 // Well-formed UTF-8, by the Unicode Standard's table 3-7.
 #![tactic(auto)]
 
-ghost use Rattle.std.specs.Prelude.{◌≡◌, true, ◌+◌, ◌≤◌, ◌<◌, length};
+ghost use Rattle.std.specs.Prelude.{◌≡◌, ◌+◌, ◌≤◌, ◌<◌, length};
 ghost use Rattle.std.specs.List.{list_all, take_while};
 ghost use Rattle.scan.specs.Front.{rest, begins};
 ghost use Rattle.utf8.specs.Utf8.{holds, ◌‥◌, char_width, first_ill};

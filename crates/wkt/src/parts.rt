@@ -1,5 +1,5 @@
 // What stands between commas, and what stands in parentheses without a name.
-ghost use Rattle.std.specs.Prelude.{◌≡◌, ℕ, ◌<◌};
+ghost use Rattle.std.specs.Prelude.{ℕ, ◌<◌};
 ghost use Rattle.answers.specs.Reading.{Part, Fits, Reads, list_of, closed_of};
 ghost use Rattle.wkt.specs.Parts.{with_body, unnamed_of};
 

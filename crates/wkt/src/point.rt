@@ -1,6 +1,5 @@
 // Points: `types/point.rs` of the Rust.
 ghost use Rattle.kinds.specs.Kinds.{kind_point};
-ghost use Rattle.answers.specs.Reading.{Fits, Reads};
 ghost use Rattle.wkt.specs.Coords.{FitsHeld, ReadsHeld};
 ghost use Rattle.wkt.specs.Parts.{point_body_of, bare_point_of, point_of};
 
