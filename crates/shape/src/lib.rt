@@ -54,9 +54,10 @@ pub fn is_number_at(text: &[u8], numbers: &[u32], i: usize) -> bool
 {
     let start = store::start_at(numbers, i) as usize;
     let end = start + (store::length_at(numbers, i) as usize);
-    let Some(w) = text.get(start..end) else {
+    if text.len() < end {
         return false;
-    };
+    }
+    let w = &text[start..end];
     number::is_plain(w) || number::is_lexeme(w)
 }
 
