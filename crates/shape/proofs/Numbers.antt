@@ -5,6 +5,7 @@ use mathlib.Core.Bool.{Bool, true, false, ◌&&◌, false≢true, and-eq-true_if
 use mathlib.Core.List.{List, [], ◌∷◌, ◌++◌}
 use Prim.Native.Nat.{ℕ, zero, suc, ◌+◌, ◌-◌, ◌≤◌, ◌<◌}
 use native.Mathlib.Omega.{arith}
+use native.Mathlib.Numerals.{add-one}
 use native.Mathlib.Decide.{dec_lt}
 use lib.Dec.{leb}
 use borrow.Author.Tests.{le-leb, lt-leb}
@@ -61,10 +62,13 @@ module _ {A : Type 0} (p : A → Bool) where
       go false y z = refl
 
   module _ (f : ℕ → A) where
-    every_firsts : (n : ℕ) → ((i : ℕ) → i < n → p (f i) ≡ true) → every p (firsts f n) ≡ true
+    pub every_none : every p (firsts f 0) ≡ true
     unfolding every firsts
-    every_firsts zero h = refl
-    every_firsts (suc n) h = rw (every_snoc (firsts f n) (f n), every_firsts n (λ i l. h i (omega arith)), h n (omega arith))
+    every_none = refl
+
+    pub every_more : (n : ℕ) → every p (firsts f n) ≡ true → p (f n) ≡ true → every p (firsts f (n + 1)) ≡ true
+    unfolding firsts
+    every_more n a b = rw (add-one n, every_snoc (firsts f n) (f n), a, b)
 
     pub every_fails : (n i : ℕ) → i < n → p (f i) ≡ false → every p (firsts f n) ≡ false
     unfolding firsts
@@ -84,13 +88,23 @@ module _ {A : Type 0} (p : A → Bool) where
         go true q = refl
         go false q = absurd (false≢true (sym (every_fails n i h q) ∙ e))
 
--- the test of each number
+-- the test of each number, one after the other
 module _ (text numbers : List ℕ) where
-  -- each is one, or some is none
-  pub numbers_told : (b : Bool) → (b ≡ true → (i : ℕ) → i < number_room numbers → is_number_at text numbers i ≡ true) → (b ≡ false → (i : ℕ) × (i < number_room numbers) × (is_number_at text numbers i ≡ false)) → b ≡ are_numbers text numbers
+  pub numbers_none : every (is_number text) (spans_in text numbers 0) ≡ true
+  unfolding spans_in
+  numbers_none = every_none (is_number text) (span_at text numbers)
+
+  pub numbers_more : (i : ℕ) → every (is_number text) (spans_in text numbers i) ≡ true → is_number_at text numbers i ≡ true → every (is_number text) (spans_in text numbers (i + 1)) ≡ true
+  unfolding spans_in is_number_at
+  numbers_more i a b = every_more (is_number text) (span_at text numbers) i a b
+
+  pub numbers_fail : (i : ℕ) → i < number_room numbers → is_number_at text numbers i ≡ false → false ≡ are_numbers text numbers
   unfolding are_numbers spans_in is_number_at
-  numbers_told true good bad = sym (every_firsts (is_number text) (span_at text numbers) (number_room numbers) (good refl))
-  numbers_told false good bad = let b = bad refl in sym (every_fails (is_number text) (span_at text numbers) (number_room numbers) b.0 b.1 b.2)
+  numbers_fail i h e = sym (every_fails (is_number text) (span_at text numbers) (number_room numbers) i h e)
+
+  pub numbers_end : (i : ℕ) → number_room numbers ≡ i → every (is_number text) (spans_in text numbers i) ≡ true → true ≡ are_numbers text numbers
+  unfolding are_numbers
+  numbers_end i z e = sym (rw z e)
 
   -- a number of a well-formed store is a lexeme
   pub number_lexeme : (i : ℕ) → are_numbers text numbers ≡ true → i < number_room numbers → is_lexeme (text_at text numbers i) ≡ true

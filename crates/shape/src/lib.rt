@@ -65,7 +65,12 @@ pub fn is_number_at(text: &[u8], numbers: &[u32], i: usize) -> bool
 fn are_numbers(text: &[u8], numbers: &[u32]) -> bool
     ensures { result ≡ are_numbers text.now numbers.now }
 {
-    (0..store::number_room(numbers)).all(|i| is_number_at(text, numbers, i))
+    for i in 0..store::number_room(numbers) {
+        if !is_number_at(text, numbers, i) {
+            return false;
+        }
+    }
+    true
 }
 
 // Whether the slices hold whole rows, and each number lies in the text and is a lexeme.
