@@ -1,5 +1,5 @@
 -- Worked examples of this crate's definitions, by computation.
-use Rattle.std.specs.Prelude.{◌≡◌, refl, Bool, true, ◌&&◌, List, [], ◌∷◌, ◌++◌, ℕ, eqb}
+use Rattle.std.specs.Prelude.{◌≡◌, refl, Bool, true, ◌&&◌, List, [], ◌∷◌, ◌++◌, ℕ, eqb, Some, None}
 use Rattle.lists.specs.Lists.{passing, bytes_that, every}
 use Rattle.scan.specs.Text.{bytes}
 use Rattle.scan.specs.Front.{begins, after_one, after_all, is_nil}
@@ -8,7 +8,8 @@ use Rattle.words.specs.Words.{same_word, starts_word}
 use Rattle.number.specs.Lexeme.{is_named, is_digits, is_exponent, is_decimal, is_unsigned, is_lexeme}
 use Rattle.bad_numbers.specs.Openings.{opens_decimal, opens_word, opens}
 use Rattle.refusals.specs.Refusals.{bad_number, not_closed, nothing_after_plus, number_goes_wrong}
-use Rattle.expected.specs.Expectations.{no_expectation, nothing_more, a_digit, digit_or_sign, number_or_word, rest_of_word}
+use Rattle.expected.specs.declared.expectations.Expectation.TheVariants.{NothingMore, ADigit, DigitOrSign, NumberOrWord, RestOfWord}
+use Rattle.expected.specs.Expectations.{no_expectation, nothing_more, a_digit, digit_or_sign, number_or_word, rest_of_word, told_number}
 use Rattle.expected.specs.Expected.{expected_after, run_start, expected_at, expected_of}
 
 all : ℕ
@@ -95,3 +96,7 @@ wide = (refl, refl, refl)
 of_refusal : (expected_of (bytes "POINT(1 +)") nothing_after_plus 8 ≡ number_or_word) × (expected_of (bytes "POINT(1 4x)") number_goes_wrong 9 ≡ nothing_more) × (expected_of (bytes "POINT(1 1e)") number_goes_wrong 10 ≡ digit_or_sign) × (expected_of (bytes "POINT(x 2)") not_closed 8 ≡ no_expectation) × (expected_of (bytes "POINT(1 4x)") bad_number 9 ≡ no_expectation) × (expected_of (bytes "POINT(1 4x)") 0 9 ≡ no_expectation)
 unfolding all
 of_refusal = (refl, refl, refl, refl, refl, refl)
+
+-- ---- the number of each, as C has it, and of none
+numbers : (told_number None ≡ 0) × (told_number (Some NothingMore) ≡ 1) × (told_number (Some ADigit) ≡ 2) × (told_number (Some DigitOrSign) ≡ 3) × (told_number (Some NumberOrWord) ≡ 4) × (told_number (Some RestOfWord) ≡ 5)
+numbers = (refl, refl, refl, refl, refl, refl)

@@ -21,7 +21,7 @@ use console::{
     INPUT_BYTES, INPUT_LIMIT, NODE_PLACES, NUMBER_PLACES, is_over, put_line, put_refusal,
     read_input,
 };
-use expected::expected_of;
+use expected::{expected_of, number_of};
 use line_places::next_begin;
 use messages::put_told;
 use printing::Out;
@@ -77,7 +77,8 @@ fn put_place(out: &mut Out, text: &[u8], place: usize) {
 
 fn put_explained(out: &mut Out, text: &[u8], number: u32, place: usize) {
     put_refusal(out, number, place, b": ");
-    put_told(out, number, expected_of(text, number, place));
+    let expected = number_of(expected_of(text, number, place));
+    put_told(out, number, expected);
     put_place(out, text, place);
 }
 

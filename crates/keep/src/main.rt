@@ -3,7 +3,7 @@
 #![tactic(auto)]
 
 use console::{INPUT_BYTES, INPUT_LIMIT, is_over, read_input};
-use expected::{NO_EXPECTATION, expected_of};
+use expected::{NO_EXPECTATION, expected_of, number_of};
 use messages::complain;
 use printing::STDOUT_FILENO;
 use refusals::TEXT_TOO_LONG;
@@ -35,7 +35,7 @@ fn keep_rows(text: &[u8], nodes: &[u32], numbers: &[u32], kept: &mut [u8]) {
 fn keep_text(text: &[u8], nodes: &mut [u32], numbers: &mut [u32], kept: &mut [u8]) {
     let read = wkt::read(text, nodes, numbers);
     if read.number != 0 {
-        let expected = expected_of(text, read.number, read.place);
+        let expected = number_of(expected_of(text, read.number, read.place));
         complain(&NAME, read.number, read.place, expected);
         return;
     }

@@ -37,6 +37,8 @@ pub fn put_message(out: &mut Out, number: u32)
 }
 
 // Puts the message of a number that goes wrong with what was expected there (the crate `expected`), and the line's end.
+// Kept (1): what was expected comes as a number, of which any is taken: a type of five or six values would ask more of callers of this and of the three functions
+// below, which the README names, and `told_line` has a line for a number past the last too (specs/Examples).
 pub fn put_expected(out: &mut Out, expected: u32)
     ensures { Prints (numbered_line expected_lines expected ∷ []) out.old out.new }
 {

@@ -218,12 +218,12 @@ pub extern "C" fn doorhollow_infer_type(text: &[u8], answer: &mut [u64; ANSWER_P
     *answer = c_answers::infer_places(a);
 }
 
-// `expected::expected_of`: what was expected where a text was refused with 28 or 29.
+// `expected::number_of`, of `expected::expected_of`: what was expected where a text was refused with 28 or 29.
 #[unsafe(no_mangle)]
 pub extern "C" fn doorhollow_expected(text: &[u8], number: u32, place: usize) -> u32
     ensures { result ≡ expected_of text.now number place }
 {
-    expected::expected_of(text, number, place)
+    expected::number_of(expected::expected_of(text, number, place))
 }
 
 // `token::read_at`: the token from a place on. The answer is sort, place, start, length; what is returned is the place to ask from for the next one.
