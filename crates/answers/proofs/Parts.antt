@@ -34,6 +34,11 @@ use Rattle.answers.specs.declared.Unread.{Unread}
 use Rattle.answers.specs.declared.Unread.TheVariants.{Refused, Stopped}
 use Rattle.answers.specs.Reading.{Answer, spot, is_read, ended_nodes, not_closed_at, closed_at, closed_nodes, after_refusal, row_for, used_by, got_of, end_of, Met}
 
+-- where the code knows, as in an arm of all other answers, that an answer is no `Ok`, it was not read
+pub not_read : (a : Answer) → ((s : Spot) → a ≡ Ok s → ⊥) → is_read a ≡ false
+not_read (Ok s) h = absurd (h s refl)
+not_read (Err e) h = refl
+
 -- whether a part was read stays so where the closing token was looked for
 read_same : (text : List ℕ) (a : Answer) → is_read (after_refusal text a) ≡ is_read a
 unfolding after_refusal

@@ -21,11 +21,11 @@ use Rattle.decimal.specs.declared.Size.{Size}
 use Rattle.decimal.specs.declared.Exponent.{Exponent}
 use Rattle.decimal.specs.Decimal.{leading, value_of, is_minus, behind_e, exponent_digits, unsigned_decimal}
 use Rattle.decimal.specs.Units.{is_far}
-use Rattle.decimal.specs.Code.{kept, keep_all, Keeps, exponent_of, size_of, SizeIs}
+use Rattle.decimal.specs.Code.{kept, keep_all, Keeps, exponent_said, exponent_of, size_of, SizeIs}
 use Rattle.decimal.proofs.Sizes.{SameDigits, keep_both}
 use Rattle.decimal.proofs.Exact.{kept_size_by}
 use Rattle.decimal.proofs.Digits.{leading_every}
-use Rattle.decimal.proofs.Texts.{ends_at, exponent_says, exponent_none, some_exponent}
+use Rattle.decimal.proofs.Texts.{ends_at, exponent_none, exponent_some, some_exponent}
 
 module _ (w : List ℕ) (from : ℕ) (whole : Kept) (kw : Keeps w (kept 0 0 false from) whole) (first : ℕ) (f : first ≡ after_one_at is_point w whole.end) where
   digits_at : rest w whole.end ≡ after_all is_digit (rest w from)
@@ -75,16 +75,19 @@ module _ (w : List ℕ) (from : ℕ) (whole : Kept) (kw : Keeps w (kept 0 0 fals
     unfolding is_decimal
     decimal_is x e = ap₂ ◌&&◌ digit_is (ap is_some e ∙ some_exponent (rest w all.end) ∙ ap (is_exponent is_nil) all_at)
 
-    module _ (x : Exponent) (e : Some x ≡ exponent_of (rest w all.end)) where
-      pub decimal_yes : (ltb from whole.end || ltb first all.end) ≡ true → is_decimal is_nil (rest w from) ≡ true
-      unfolding is_decimal
-      decimal_yes t = ap₂ ◌&&◌ (sym digit_is ∙ t) (sym (ap (is_exponent is_nil) all_at) ∙ (exponent_says x (rest w all.end) e).good)
+    pub decimal_yes : (x : Exponent) → Some x ≡ exponent_of (rest w all.end) → (ltb from whole.end || ltb first all.end) ≡ true → is_decimal is_nil (rest w from) ≡ true
+    unfolding is_decimal
+    decimal_yes x e t = ap₂ ◌&&◌ (sym digit_is ∙ t) (sym (ap (is_exponent is_nil) all_at) ∙ exponent_some x (rest w all.end) e)
 
+    -- its size, by what the bytes behind its digits say, be they an exponent or not
+    module _ (x : Exponent) (e : x ≡ exponent_said (rest w all.end)) where
       lowers_is : x.lowers ≡ begins is_minus (behind_e (rest w from))
-      lowers_is = (exponent_says x (after_all is_digit (after_whole (rest w from))) (e ∙ ap exponent_of all_at)).lowers
+      unfolding exponent_said
+      lowers_is = ap (λ (k : Exponent). k.lowers) (e ∙ ap exponent_said all_at)
 
       size_is : x.size ≡ min (value_of (exponent_digits (rest w from))) 10000
-      size_is = (exponent_says x (after_all is_digit (after_whole (rest w from))) (e ∙ ap exponent_of all_at)).size
+      unfolding exponent_said
+      size_is = ap (λ (k : Exponent). k.size) (e ∙ ap exponent_said all_at)
 
       pub size_far : 9999 < x.size → is_far (unsigned_decimal false (rest w from)) ≡ true
       size_far h = lt-ltb 9999 (value_of (exponent_digits (rest w from))) (omega (arith, size_is))

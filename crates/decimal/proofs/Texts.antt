@@ -22,7 +22,7 @@ use Rattle.std.specs.Prelude.{Some, None, is_some}
 use Rattle.decimal.specs.declared.Exponent.{Exponent}
 use Rattle.decimal.specs.declared.Size.{Size}
 use Rattle.decimal.specs.Decimal.{leading, value_of, is_minus}
-use Rattle.decimal.specs.Code.{any_left, tail_of, number_of, size, fraction_of, exponent, exponent_of}
+use Rattle.decimal.specs.Code.{any_left, tail_of, number_of, size, fraction_of, exponent, exponent_said, exponent_of}
 use Rattle.decimal.proofs.Value.{value_none, value_lt}
 use Rattle.decimal.proofs.Digits.{leading_nil, leading_every, leading_all, rest_length}
 
@@ -80,7 +80,7 @@ module _ (p : ℕ → Bool) where
       go false e k f r = (refl, refl)
 
 -- ---- an exponent
-exponent_is : (l : List ℕ) (x : Exponent) → is_exponent is_nil l ≡ true → x ≡ exponent (begins is_minus (after_one is_e l)) (min (value_of (leading is_digit (after_one is_sign (after_one is_e l)))) 10000) → Some x ≡ exponent_of l
+exponent_is : (l : List ℕ) (x : Exponent) → is_exponent is_nil l ≡ true → x ≡ exponent_said l → Some x ≡ exponent_of l
 unfolding exponent_of
 exponent_is l x t e = rw t (ap Some e)
 
@@ -88,36 +88,32 @@ exponent_no : (l : List ℕ) → is_exponent is_nil l ≡ false → None ≡ exp
 unfolding exponent_of
 exponent_no l t = rw t
 
--- what an exponent says
-pub record ExponentIs (x : Exponent) (l : List ℕ) : Type 0 where
-  pub good : is_exponent is_nil l ≡ true
-  pub lowers : x.lowers ≡ begins is_minus (after_one is_e l)
-  pub size : x.size ≡ min (value_of (leading is_digit (after_one is_sign (after_one is_e l)))) 10000
-
-pub exponent_says : (x : Exponent) (l : List ℕ) → Some x ≡ exponent_of l → ExponentIs x l
+-- one that is told is what the bytes say
+pub exponent_says : (x : Exponent) (l : List ℕ) → Some x ≡ exponent_of l → x ≡ exponent_said l
 unfolding exponent_of
-exponent_says x l e = go (is_exponent is_nil l) refl e
+exponent_says x l e = go (is_exponent is_nil l) e
   where
-    go : (t : Bool) → is_exponent is_nil l ≡ t → Some x ≡ cond t (Some (exponent (begins is_minus (after_one is_e l)) (min (value_of (leading is_digit (after_one is_sign (after_one is_e l)))) 10000))) None → ExponentIs x l
-    go true h q =
-        let s : x ≡ exponent (begins is_minus (after_one is_e l)) (min (value_of (leading is_digit (after_one is_sign (after_one is_e l)))) 10000) = cc in
-        record { good = h; lowers = ap (λ (k : Exponent). k.lowers) s; size = ap (λ (k : Exponent). k.size) s }
-    go false h q = cc
+    go : (t : Bool) → Some x ≡ cond t (Some (exponent_said l)) None → x ≡ exponent_said l
+    go true q = cc
+    go false q = cc
 
 pub some_exponent : (l : List ℕ) → is_some (exponent_of l) ≡ is_exponent is_nil l
 unfolding exponent_of
 some_exponent l = go (is_exponent is_nil l)
   where
-    go : (t : Bool) → is_some (cond t (Some (exponent (begins is_minus (after_one is_e l)) (min (value_of (leading is_digit (after_one is_sign (after_one is_e l)))) 10000))) None) ≡ t
+    go : (t : Bool) → is_some (cond t (Some (exponent_said l)) None) ≡ t
     go true = refl
     go false = refl
 
 pub exponent_none : (l : List ℕ) → None ≡ exponent_of l → is_exponent is_nil l ≡ false
 exponent_none l e = sym (some_exponent l) ∙ ap is_some (sym e)
 
+pub exponent_some : (x : Exponent) (l : List ℕ) → Some x ≡ exponent_of l → is_exponent is_nil l ≡ true
+exponent_some x l e = sym (some_exponent l) ∙ ap is_some (sym e)
+
 module _ (w : List ℕ) (at : ℕ) where
   pub exponent_past : length w ≤ at → Some (exponent false 0) ≡ exponent_of (rest w at)
-  unfolding exponent_of is_exponent is_nil begins after_one
+  unfolding exponent_of exponent_said is_exponent is_nil begins after_one
   exponent_past h = rw (rest_past w at h, leading_nil is_digit, value_none)
 
   -- it is one and ends the text: its `e`, and digits up to the end
@@ -142,21 +138,28 @@ module _ (w : List ℕ) (at : ℕ) where
       let front : begins is_e (rest w at) ≡ false = sym (begins_at is_e w at h) ∙ e in
       exponent_no (rest w at) (rw (more, front))
 
-  module _ (h : at < length w) (e : is_e (get_or w at 0) ≡ true) (sign first end : ℕ) (s : sign ≡ after_one_at is_e w at) (f : first ≡ after_one_at is_sign w sign) (n : end ≡ first_not is_digit w first) where
+  module _ (sign first : ℕ) (s : sign ≡ after_one_at is_e w at) (f : first ≡ after_one_at is_sign w sign) where
     behind_e_law : rest w sign ≡ after_one is_e (rest w at)
     behind_e_law = ap (rest w) s ∙ rest_one is_e w at refl
 
     digits_law : rest w first ≡ after_one is_sign (after_one is_e (rest w at))
     digits_law = ap (rest w) f ∙ rest_one is_sign w sign refl ∙ ap (after_one is_sign) behind_e_law
 
+    -- what the bytes there say, be they an exponent or not
+    pub said_at : (lowers : Bool) (size : ℕ) → lowers ≡ begins is_minus (rest w sign) → size ≡ min (value_of (leading is_digit (rest w first))) 10000 → exponent lowers size ≡ exponent_said (rest w at)
+    unfolding exponent_said
+    said_at lowers size m v = ap₂ exponent (m ∙ ap (begins is_minus) behind_e_law) (v ∙ ap (λ (l : List ℕ). min (value_of (leading is_digit l)) 10000) digits_law)
+
+  module _ (h : at < length w) (e : is_e (get_or w at 0) ≡ true) (sign first end : ℕ) (s : sign ≡ after_one_at is_e w at) (f : first ≡ after_one_at is_sign w sign) (n : end ≡ first_not is_digit w first) where
+    good_law : (ltb first end && leb (length w) end) ≡ is_exponent is_nil (rest w at)
+    good_law = exponent_good h true first end (sym e) (digits_law sign first s f) n
+
     -- no digits stand behind it, or more than them
     pub exponent_bad : (ltb first end && leb (length w) end) ≡ false → None ≡ exponent_of (rest w at)
-    exponent_bad t = exponent_no (rest w at) (sym (exponent_good h true first end (sym e) digits_law n) ∙ t)
+    exponent_bad t = exponent_no (rest w at) (sym good_law ∙ t)
 
     pub exponent_at : (lowers : Bool) (size : ℕ) → lowers ≡ begins is_minus (rest w sign) → size ≡ min (value_of (leading is_digit (rest w first))) 10000 → (ltb first end && leb (length w) end) ≡ true → Some (exponent lowers size) ≡ exponent_of (rest w at)
-    exponent_at lowers size m v t =
-        exponent_is (rest w at) (exponent lowers size) (sym (exponent_good h true first end (sym e) digits_law n) ∙ t)
-        (ap₂ exponent (m ∙ ap (begins is_minus) behind_e_law) (v ∙ ap (λ (l : List ℕ). min (value_of (leading is_digit l)) 10000) digits_law))
+    exponent_at lowers size m v t = exponent_is (rest w at) (exponent lowers size) (sym good_law ∙ t) (said_at sign first s f lowers size m v)
 
   -- the place behind its sign is no place past the end
   pub sign_inside : at < length w → (sign first : ℕ) → sign ≡ after_one_at is_e w at → first ≡ after_one_at is_sign w sign → first ≤ length w

@@ -71,11 +71,13 @@ pub record Keeps (w : List ℕ) (k r : Kept) : Type 0 where
 abbrev pub exponent : Bool → ℕ → Exponent
 exponent lowers size = record { lowers = lowers; size = size }
 
+-- "an exponent beyond 9,999 either way": what any bytes say as one, be they one or not
+unfoldable pub exponent_said : List ℕ → Exponent
+exponent_said l = exponent (begins is_minus (after_one is_e l)) (min (value_of (leading is_digit (after_one is_sign (after_one is_e l)))) 10000)
+
+-- one that ends the text, or a text that ends before it: what it says
 unfoldable pub exponent_of : List ℕ → Option Exponent
-exponent_of l =
-    cond (is_exponent is_nil l)
-    (Some (exponent (begins is_minus (after_one is_e l)) (min (value_of (leading is_digit (after_one is_sign (after_one is_e l)))) 10000)))
-    None
+exponent_of l = cond (is_exponent is_nil l) (Some (exponent_said l)) None
 
 -- ---- a size in units: whole ones held one above the limit
 abbrev pub held : ℕ

@@ -12,7 +12,7 @@ use Rattle.rounding.specs.Rounding.{Reckoned, sides}
 use Rattle.decimal.specs.Decimal.{leading, read_on, value_of, Decimal, written, above, below, numerator, denominator, SameNumber, alike, nought}
 use Rattle.decimal.specs.Units.{unit_places, exponent_limit, whole_units, is_left, low, high, is_far, is_large}
 use Rattle.decimal.specs.Reckon.{sides_of, reckoned}
-use Rattle.decimal.specs.Code.{raw_on, tail_of, fraction_of, kept, keep_one, keep_all, exponent, exponent_of, size, size_of}
+use Rattle.decimal.specs.Code.{raw_on, tail_of, fraction_of, kept, keep_one, keep_all, exponent, exponent_said, exponent_of, size, size_of}
 
 neg : ℕ → ℤ
 neg n = neg_ℤ (pos n)
@@ -163,7 +163,7 @@ none = refl
 
 -- ---- what the code holds on its way
 code : ℕ
-unfolding raw_on tail_of fraction_of keep_all exponent_of
+unfolding raw_on tail_of fraction_of keep_all exponent_said exponent_of
 code = 0
 
 -- seven noughts, each as its byte; digits up to a text's end
@@ -188,6 +188,14 @@ exponents :
     × (exponent_of (bytes "x5") ≡ None) × (exponent_of (bytes "5") ≡ None) × (exponent_of (bytes "e") ≡ None) × (exponent_of (bytes "e-") ≡ None) × (exponent_of (bytes "e5x") ≡ None) × (exponent_of (bytes "e5.") ≡ None)
 unfolding all code
 exponents = (refl, refl, refl, refl, refl, refl, refl, refl, refl, refl)
+
+-- what bytes say as an exponent: those that are one, and those that are none
+exponents_said :
+    (exponent_said [] ≡ exponent false 0) × (exponent_said (bytes "e5") ≡ exponent false 5) × (exponent_said (bytes "E-9999") ≡ exponent true 9999) × (exponent_said (bytes "e+123456") ≡ exponent false 10000)
+    × (exponent_said (bytes "x5") ≡ exponent false 0) × (exponent_said (bytes "5") ≡ exponent false 5) × (exponent_said (bytes "e") ≡ exponent false 0) × (exponent_said (bytes "E-") ≡ exponent true 0)
+    × (exponent_said (bytes "e5x") ≡ exponent false 5) × (exponent_said (bytes "e-5.") ≡ exponent true 5) × (exponent_said (bytes "e10000x") ≡ exponent false 10000)
+unfolding all code
+exponents_said = (refl, refl, refl, refl, refl, refl, refl, refl, refl, refl, refl)
 
 -- kept digits with tens above the line and below it: held at 10^17 + 1, and divided
 sizes : (size_of (kept 12 0 false 2) 7 4 ≡ size 12000 false) × (size_of (kept 12 0 true 2) 99 4 ≡ size 100000000000000001 true) × (size_of (kept 1234 0 false 4) 7 9 ≡ size 12 true) × (size_of (kept 1200 0 false 4) 7 9 ≡ size 12 false) × (size_of (kept 1200 0 true 4) 7 9 ≡ size 12 true)

@@ -124,10 +124,16 @@ pub fn put_field(out: &mut [u8], p: Pen, tag: u8, content: &[u8]) -> Pen
             let start = p.at + HEAD;
             out[p.at] = tag;
             put_count(&mut out[p.at + 1..start], (len % LENGTHS) as u32);
-            // A content of one byte needs no call that copies.
+            // A content of one byte needs no loop.
             match content {
                 [b] => out[start] = *b,
-                _ => out[start..end].copy_from_slice(content),
+                _ => {
+                    let behind = Pen {
+                        at: start,
+                        full: false,
+                    };
+                    pen::put(out, behind, content);
+                }
             }
             Pen {
                 at: end,

@@ -18,7 +18,7 @@ use nodes::{Met, Visit};
 use refusals::{ILL_FORMED_STORE, NO_FINITE_NUMBER, NO_ROOM, NUMBER_TOO_LARGE};
 use rounding::{NoSides, Sides};
 use store::{NODE_WIDTH, NUMBER_WIDTH};
-use walk::{ABOVE, FRAMES};
+use walk::{FRAMES, NO_FRAME};
 
 // How many numbers of a coordinate have sides: X and Y, each on an axis of its own.
 const AXES: usize = 2;
@@ -210,7 +210,7 @@ fn fill(text: &[u8], nodes: &[u32], numbers: &[u32], table: &mut [i64]) -> BoxAn
     ensures { FilledBy text.now numbers.now table.old result table.new (whole_walk nodes.now (number_room numbers.now)) }
 {
     let count = store::number_room(numbers);
-    let mut frames = [ABOVE; FRAMES];
+    let mut frames = [NO_FRAME; FRAMES];
     let mut w = walk::start(&mut frames);
     let mut good = true;
     let mut found = BoxAnswer {

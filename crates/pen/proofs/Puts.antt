@@ -1,15 +1,15 @@
 -- Laws of a pen: by whether there is room for a piece, and what it then owes of a text.
 -- Assumes nothing.
-use mathlib.Core.Path.{◌≡◌, refl, ap, ◌∙◌}
+use mathlib.Core.Path.{◌≡◌, refl, ap, sym, ◌∙◌}
 use mathlib.Core.Bool.{Bool, true, false, not, ◌&&◌, cond}
 use mathlib.Core.List.{List, [], ◌∷◌, ◌++◌, append_assoc}
-use Prim.Native.Nat.{ℕ, ◌+◌, ◌≤◌}
+use Prim.Native.Nat.{ℕ, suc, ◌+◌, ◌≤◌, ◌<◌}
 use native.Mathlib.Omega.{arith}
 use native.Mathlib.Numerals.{add-one}
 use lib.Dec.{leb}
-use borrow.Author.Tests.{le-leb, leb-true, leb-false}
-use lib.ListN.{length, take, drop, get_or, set, length-append}
-use lib.Seq.{sets, sets-eq, length-sets, take_at, length-take-le}
+use borrow.Author.Tests.{le-leb, lt-leb, leb-true, leb-false}
+use lib.ListN.{length, take, drop, get_or, set, length-append, drop_of_length-le}
+use lib.Seq.{sets, sets-eq, length-sets, drop-cons, take_at, length-take-le}
 use Rattle.std.specs.Prelude.{Some, None}
 use Rattle.pen.specs.declared.Pen.{Pen}
 use Rattle.pen.specs.Pen.{pen, room_for, end_of, has_room, pen_after, out_after, Puts, ToPut, Owes, Emits}
@@ -20,11 +20,43 @@ module _ (piece : List ℕ) (p : Pen) (out : List ℕ) where
   unfolding pen_after out_after
   no_room_law e = record { stands = rw e; bytes = rw e }
 
+  pub puts_full : p.full ≡ true → Puts piece p out (pen p.at true) out
+  unfolding has_room
+  puts_full e = no_room_law (rw e)
+
+  pub puts_none : p.full ≡ false → length out < p.at + length piece → Puts piece p out (pen p.at true) out
+  unfolding has_room
+  puts_none e h = no_room_law (rw (e, lt-leb (p.at + length piece) (length out) h))
+
   pub puts_all : p.full ≡ false → p.at + length piece ≤ length out → (at : ℕ) (out' : List ℕ) → at ≡ p.at + length piece → out' ≡ sets out p.at piece → Puts piece p out (pen at false) out'
   unfolding has_room pen_after out_after
   puts_all e h at out' a b =
       let t = le-leb (p.at + length piece) (length out) h in
       record { stands = rw (e, t, a); bytes = rw (e, t) b }
+
+-- the contract leaves no choice
+pub puts_once : {piece : List ℕ} {p : Pen} {out : List ℕ} {r r' : Pen} {out₁ out₂ : List ℕ} → Puts piece p out r out₁ → Puts piece p out r' out₂ → (r ≡ r') × (out₁ ≡ out₂)
+puts_once a b = (a.stands ∙ sym b.stands, a.bytes ∙ sym b.bytes)
+
+-- where there is room, all of it is put
+pub put_whole : {piece out out' : List ℕ} {at : ℕ} {r : Pen} → Puts piece (pen at false) out r out' → at + length piece ≤ length out → (r ≡ pen (at + length piece) false) × (out' ≡ sets out at piece)
+unfolding has_room pen_after out_after
+put_whole {piece} {out} {at = at} h k =
+    let t = le-leb (at + length piece) (length out) k in
+    (h.stands ∙ rw t, h.bytes ∙ rw t)
+
+-- ---- the loop that puts: storing what is left gives what storing all gives
+module _ (out piece : List ℕ) (at i : ℕ) where
+  pub sets_on : i < length piece → sets (set out (at + i) (get_or piece i 0)) (at + (i + 1)) (drop (i + 1) piece) ≡ sets out (at + i) (drop i piece)
+  sets_on h =
+      let z : at + (i + 1) ≡ suc (at + i) = omega arith in
+      rw (drop-cons piece i 0 h, z, add-one i)
+
+  pub sets_end : length piece ≤ i → sets out (at + i) (drop i piece) ≡ out
+  sets_end h = rw (drop_of_length-le piece {i = i} h)
+
+pub sets_start : (out piece : List ℕ) (at : ℕ) → sets out (at + 0) (drop 0 piece) ≡ sets out at piece
+sets_start out piece at = let z : at + 0 ≡ at = omega arith in rw z
 
 -- by where the bytes end
 pub ends_in : (p : Pen) (out : List ℕ) (n end : ℕ) → Some end ≡ end_of p out n → (p.full ≡ false) × (end ≡ p.at + n) × (p.at + n ≤ length out)

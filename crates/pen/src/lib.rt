@@ -1,7 +1,8 @@
 // Bytes put one after the other into a lent slice, while there is room.
 #![tactic(auto)]
 
-ghost use Rattle.std.specs.Prelude.{◌≡◌, [], ◌∷◌, length};
+ghost use Rattle.std.specs.Prelude.{◌≡◌, [], ◌∷◌, ◌+◌, ◌≤◌, length};
+ghost use Rattle.std.proofs.lemmas.List.Edits.{sets};
 ghost use Rattle.store.specs.Answers.{refusal, Writes};
 ghost use Rattle.pen.specs.Pen.{end_of, Puts};
 
@@ -28,13 +29,23 @@ pub fn end_of(out: &[u8], p: Pen, count: usize) -> Option<usize>
     Some(p.at + count)
 }
 
+// Stores a piece from a place on, byte by byte: by `copy_from_slice` the library for C would ask its user for `memmove`.
+fn store_piece(out: &mut [u8], at: usize, piece: &[u8])
+    requires { at + length piece.now ≤ length out.old }
+    ensures { out.new ≡ sets out.old at piece.now }
+{
+    for i in 0..piece.len() {
+        out[at + i] = piece[i];
+    }
+}
+
 // Puts a whole piece, or nothing.
 pub fn put(out: &mut [u8], p: Pen, piece: &[u8]) -> Pen
     ensures { Puts piece.now p out.old result out.new }
 {
     match end_of(out, p, piece.len()) {
         Some(end) => {
-            out[p.at..end].copy_from_slice(piece);
+            store_piece(out, p.at, piece);
             Pen {
                 at: end,
                 full: false,
@@ -47,7 +58,7 @@ pub fn put(out: &mut [u8], p: Pen, piece: &[u8]) -> Pen
     }
 }
 
-// Puts a byte and a piece after it, or nothing. A piece of one byte needs no call that copies.
+// Puts a byte and a piece after it, or nothing. A piece of one byte needs no loop.
 pub fn put_led(out: &mut [u8], p: Pen, lead: u8, piece: &[u8]) -> Pen
     ensures { Puts (lead ∷ piece.now) p out.old result out.new }
 {
@@ -56,7 +67,7 @@ pub fn put_led(out: &mut [u8], p: Pen, lead: u8, piece: &[u8]) -> Pen
             out[p.at] = lead;
             match piece {
                 [b] => out[p.at + 1] = *b,
-                _ => out[p.at + 1..end].copy_from_slice(piece),
+                _ => store_piece(out, p.at + 1, piece),
             }
             Pen {
                 at: end,

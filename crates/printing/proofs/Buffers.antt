@@ -11,7 +11,7 @@ use lib.Seq.{sets}
 use Rattle.pen.specs.declared.Pen.{Pen}
 use Rattle.pen.specs.Pen.{pen, has_room, pen_after, out_after, Puts}
 use Rattle.printing.specs.declared.Out.{Out}
-use Rattle.printing.specs.Printing.{Buffer, buffer, has_room_at, standing, held, put_in, put_all_in, Prints}
+use Rattle.printing.specs.Printing.{Buffer, buffer, has_room_at, standing, held, put_anew, put_in, put_all_in, Prints}
 
 -- what a pen says of the buffer, by whether the text had room
 module _ {text out out' : List ℕ} {at : ℕ} {r : Pen} (h : Puts text (pen at false) out r out') where
@@ -42,6 +42,20 @@ module _ {text out out' : List ℕ} {at : ℕ} {r : Pen} (h : Puts text (pen at 
           absurd (omega arith)
       go false x = (x, h.bytes ∙ rw x)
 
+-- a text is put anew: at the start, where nothing is full any more, or nowhere
+module _ (at : ℕ) {text out out' : List ℕ} {r : Pen} (h : Puts text (pen 0 false) out r out') where
+  pub anew_first : r.full ≡ false → buffer out' r.at ≡ put_anew text (buffer out at)
+  unfolding put_anew
+  anew_first g =
+      let y = stood h g in
+      y.1 ∙ rw y.0
+
+  pub anew_nowhere : r.full ≡ true → buffer out' 0 ≡ put_anew text (buffer out at)
+  unfolding put_anew
+  anew_nowhere g =
+      let y = lacked h g in
+      rw (y.1, y.0)
+
 -- the three ways of putting a text: behind the full bytes, at the start, nowhere
 module _ (at : ℕ) {text out out' : List ℕ} {here : ℕ} {r : Pen} (e : here ≡ min at (length out)) (h : Puts text (pen here false) out r out') where
   pub put_behind : r.full ≡ false → buffer out' r.at ≡ put_in text (buffer out at)
@@ -50,22 +64,20 @@ module _ (at : ℕ) {text out out' : List ℕ} {here : ℕ} {r : Pen} (e : here 
       let y = rw e at (stood h f) in
       y.1 ∙ rw y.0
 
+  -- where it has no room behind the full bytes, what it comes to is what it comes to anew
+  pub put_over : r.full ≡ true → {x : Buffer} → x ≡ put_anew text (buffer out' at) → x ≡ put_in text (buffer out at)
+  unfolding put_in put_anew
+  put_over f n =
+      let x = lacked h f in
+      let lacks : has_room_at (min at (length out)) text out ≡ false = rw e at x.0 in
+      n ∙ rw (x.1, lacks)
+
   module _ {out'' : List ℕ} {r' : Pen} (f : r.full ≡ true) (h' : Puts text (pen 0 false) out' r' out'') where
     pub put_first : r'.full ≡ false → buffer out'' r'.at ≡ put_in text (buffer out at)
-    unfolding put_in
-    put_first g =
-        let x = lacked h f in
-        let lacks : has_room_at (min at (length out)) text out ≡ false = rw e at x.0 in
-        let y = rw x.1 at (stood h' g) in
-        y.1 ∙ rw (lacks, y.0)
+    put_first g = put_over f (anew_first at h' g)
 
     pub put_nowhere : r'.full ≡ true → buffer out'' 0 ≡ put_in text (buffer out at)
-    unfolding put_in
-    put_nowhere g =
-        let x = lacked h f in
-        let lacks : has_room_at (min at (length out)) text out ≡ false = rw e at x.0 in
-        let y = rw x.1 at (lacked h' g) in
-        rw (y.1, lacks, y.0)
+    put_nowhere g = put_over f (anew_nowhere at h' g)
 
 -- some texts are put, and then others
 pub put_then : (xs ys : List (List ℕ)) (b : Buffer) → put_all_in (xs ++ ys) b ≡ put_all_in ys (put_all_in xs b)

@@ -29,6 +29,10 @@ has_room_at at text bytes = leb (at + length text) (length bytes)
 abbrev pub standing : ℕ → List ℕ → List ℕ → Buffer
 standing at text bytes = buffer (sets bytes at text) (at + length text)
 
+-- a text is put at the start, where nothing is full any more; where it has no room even there, it is written out and nothing is full
+unfoldable pub put_anew : List ℕ → Buffer → Buffer
+put_anew text b = cond (has_room_at 0 text b.bytes) (standing 0 text b.bytes) (buffer b.bytes 0)
+
 -- a text is put behind the full bytes. Where it has no room they are written out, and it is put at the start; where it has none even there,
 -- it is written out too and nothing is full
 unfoldable pub put_in : List ℕ → Buffer → Buffer

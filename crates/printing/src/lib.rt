@@ -3,7 +3,7 @@
 #![tactic(auto)]
 
 ghost use Rattle.std.specs.Prelude.{◌≡◌, [], ◌∷◌};
-ghost use Rattle.printing.specs.Printing.{buffer, held, Prints, decimal, spaced};
+ghost use Rattle.printing.specs.Printing.{buffer, held, put_anew, Prints, decimal, spaced};
 
 use pen::Pen;
 
@@ -24,6 +24,12 @@ pub struct Out<'a> {
     pub at: usize,
 }
 
+// Writes out the full bytes of a text that is lent: the first `at`, or all where it has fewer.
+pub fn flush(text: &[u8], at: usize) {
+    let full = at.min(text.len());
+    io::write_all(STDOUT_FILENO, &text[0..full]);
+}
+
 impl<'a> Out<'a> {
     // Nothing of the bytes is full.
     pub fn new(bytes: &'a mut [u8]) -> Out<'a>
@@ -35,8 +41,24 @@ impl<'a> Out<'a> {
 
     // Writes out what the buffer holds.
     pub fn flush(&self) {
-        let full = self.at.min(self.bytes.len());
-        io::write_all(STDOUT_FILENO, &self.bytes[0..full]);
+        flush(self.bytes, self.at);
+    }
+
+    // Puts a text that has no room behind what the buffer holds: that is written out, and the text put at the start; where it has no room even there, it is
+    // written out too. It stands apart so that `put` is short enough to become a part of who calls it.
+    #[inline(never)]
+    fn put_anew(&mut self, text: &[u8])
+        ensures same_bytes { self.new.bytes.ghost_name ≡ self.old.bytes.ghost_name }
+        ensures holds { held self.new ≡ put_anew text.now (held self.old) }
+    {
+        self.flush();
+        let first = pen::put(self.bytes, Pen { at: 0, full: false }, text);
+        if first.full {
+            io::write_all(STDOUT_FILENO, text);
+            self.at = 0;
+        } else {
+            self.at = first.at;
+        }
     }
 
     // Puts a text behind what the buffer holds, which is written out first where there is no room.
@@ -52,17 +74,10 @@ impl<'a> Out<'a> {
             },
             text,
         );
-        if !behind.full {
-            self.at = behind.at;
-            return;
-        }
-        self.flush();
-        let first = pen::put(self.bytes, Pen { at: 0, full: false }, text);
-        if first.full {
-            io::write_all(STDOUT_FILENO, text);
-            self.at = 0;
+        if behind.full {
+            self.put_anew(text);
         } else {
-            self.at = first.at;
+            self.at = behind.at;
         }
     }
 

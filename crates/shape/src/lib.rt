@@ -8,13 +8,13 @@ ghost use Rattle.shape.specs.Store.{well_formed};
 ghost use Rattle.shape.specs.Walk.{are_rows, whole_walk};
 
 use store::{NODE_WIDTH, NUMBER_WIDTH};
-use walk::{ABOVE, FRAMES};
+use walk::{FRAMES, NO_FRAME};
 
 // Whether the rows are exactly one tree that needs `count` numbers.
 fn is_tree(nodes: &[u32], count: usize) -> bool
     ensures { result ≡ is_some (whole_walk nodes.now count) }
 {
-    let mut frames = [ABOVE; FRAMES];
+    let mut frames = [NO_FRAME; FRAMES];
     let mut w = walk::start(&mut frames);
     for i in 0..store::node_room(nodes) {
         let entered = walk::enter(

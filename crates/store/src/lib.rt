@@ -163,6 +163,17 @@ impl Zero for u32 {
     ghost same = { λ x e. e };
 }
 
+// The kind that an array of bare noughts has where nothing else tells it: `let mut places = [0; 9]` may be cleared.
+impl Zero for i32 {
+    ghost ZERO = { pos 0 };
+
+    const ZERO: i32 = 0;
+
+    ghost copied = { tt };
+
+    ghost same = { λ x e. e };
+}
+
 impl Zero for i64 {
     ghost ZERO = { pos 0 };
 

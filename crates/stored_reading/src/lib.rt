@@ -15,7 +15,7 @@ use refusals::{
 };
 use store::ReadAnswer;
 use stored_form::{Counts, Edition, HEAD_TAG, NODE_TAG, Refusal, Seen};
-use walk::{ABOVE, FRAMES};
+use walk::{FRAMES, NO_FRAME};
 
 // Where the version stands, and where the counts begin.
 const VERSION_AT: usize = 3;
@@ -80,7 +80,7 @@ fn look_at_nodes(bytes: &[u8], width: usize, c: Counts) -> Result<Seen, Refusal>
     requires { (width ≤ 4) × (c.nodes < 2 ^ 32) }
     ensures { result ≡ nodes_seen width bytes.now (first_node width) c.nodes c.numbers }
 {
-    let mut frames = [ABOVE; FRAMES];
+    let mut frames = [NO_FRAME; FRAMES];
     let mut w = walk::start(&mut frames);
     let mut well = true;
     let mut at = first_node(width);

@@ -12,7 +12,7 @@ ghost use Rattle.strict.specs.Strict.{answer, fault_at, or_else, told, of_walk, 
 use kinds::{KIND_GEOMETRYCOLLECTION, KIND_LINESTRING, KIND_POLYGON};
 use nodes::{Met, Visit};
 use refusals::ILL_FORMED_STORE;
-use walk::{ABOVE, FRAMES};
+use walk::{FRAMES, NO_FRAME};
 
 // The fewest coordinates of a line string and of a ring that are not empty.
 const LINE_MIN: u32 = 2;
@@ -168,7 +168,7 @@ fn first_fault(text: &[u8], nodes: &[u32], numbers: &[u32]) -> StrictAnswer
     ensures { result ≡ of_walk text.now numbers.now (whole_walk nodes.now (number_room numbers.now)) }
 {
     let count = store::number_room(numbers);
-    let mut frames = [ABOVE; FRAMES];
+    let mut frames = [NO_FRAME; FRAMES];
     let mut w = walk::start(&mut frames);
     let mut found = None;
     // Kept (3): what is met next stands in the step that the walk answers, which takes the lent frames anew at each turn.

@@ -17,7 +17,7 @@ use nodes::{Met, Visit};
 use pen::Pen;
 use refusals::{ILL_FORMED_STORE, NO_ROOM};
 use store::WriteAnswer;
-use walk::{ABOVE, FRAMES};
+use walk::{FRAMES, NO_FRAME};
 
 // `width` numbers from `first` on, separated by blanks, after the byte `lead`.
 fn put_coordinate(
@@ -100,7 +100,7 @@ fn put_rows(out: &mut [u8], text: &[u8], nodes: &[u32], numbers: &[u32]) -> Opti
     ensures { PutRows text.now numbers.now (whole_walk nodes.now (number_room numbers.now)) result out.new }
 {
     let count = store::number_room(numbers);
-    let mut frames = [ABOVE; FRAMES];
+    let mut frames = [NO_FRAME; FRAMES];
     let mut w = walk::start(&mut frames);
     let mut pen = Pen { at: 0, full: false };
     loop {

@@ -34,3 +34,10 @@ module _ {A : Type 0} (f : ℕ → A) where
 
     pub firsts_past : n ≤ i → drop i (firsts f n) ≡ []
     firsts_past h = drop_of_length-le (firsts f n) {i = i} (omega (arith, firsts_length f n))
+
+-- where two give the same from i on
+pub firsts_alike : {A : Type 0} (f g : ℕ → A) (n k i : ℕ) → k + i ≡ n → ((j : ℕ) → i ≤ j → j < n → g j ≡ f j) → drop i (firsts g n) ≡ drop i (firsts f n)
+firsts_alike f g n zero i e h = firsts_past g n i (omega arith) ∙ sym (firsts_past f n i (omega arith))
+firsts_alike f g n (suc k) i e h =
+    let l : i < n = omega arith in
+    firsts_cut g n i l ∙ rw (h i (omega arith) l, firsts_alike f g n k (i + 1) (omega arith) (λ j m o. h j (omega arith) o)) (sym (firsts_cut f n i l))

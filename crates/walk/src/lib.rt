@@ -23,6 +23,16 @@ pub const ABOVE: Frame = Frame {
     next: 0,
 };
 
+// What a frame is before a walk puts one there: all zero, so that an array of them is cleared at once.
+pub const NO_FRAME: Frame = Frame {
+    row: 0,
+    kind: NO_KIND,
+    dimension: 0,
+    depth: 0,
+    parts: 0,
+    next: 0,
+};
+
 // Where a walk stands: the next row, the next number, and the open nodes, the innermost in frame `top`, the outermost in the last.
 #[derive(Clone, Copy)]
 pub struct Walk {

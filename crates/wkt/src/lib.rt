@@ -4,6 +4,8 @@
 mod coord;
 mod geometrycollection;
 mod linestring;
+mod multipoint;
+mod multipolygon;
 mod parts;
 mod point;
 mod polygon;
@@ -26,7 +28,6 @@ use limits::{DEPTH_LIMIT, TEXT_LIMIT};
 use linestring::LineString;
 use parts::{InParens, by_commas};
 use point::Point;
-use polygon::Polygon;
 use refusals::{ILL_FORMED_UTF8, TEXT_TOO_LONG};
 use store::ReadAnswer;
 
@@ -47,8 +48,8 @@ fn body(
     match kind {
         KIND_POINT => Point::body(text, nodes, numbers, row, dimension, s),
         KIND_LINESTRING => by_commas::<Coordinate>(text, nodes, numbers, row, dimension, s),
-        KIND_MULTIPOINT => by_commas::<Point>(text, nodes, numbers, row, dimension, s),
-        KIND_MULTIPOLYGON => by_commas::<Polygon>(text, nodes, numbers, row, dimension, s),
+        KIND_MULTIPOINT => multipoint::points(text, nodes, numbers, row, dimension, s),
+        KIND_MULTIPOLYGON => multipolygon::polygons(text, nodes, numbers, row, dimension, s),
         _ => by_commas::<LineString>(text, nodes, numbers, row, dimension, s),
     }
 }

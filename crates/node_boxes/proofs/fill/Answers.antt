@@ -2,15 +2,14 @@
 use mathlib.Core.Path.{ap, sym, ◌∙◌}
 use lib.ListN.{length-replicate}
 use Rattle.nodes.specs.declared.Frame.{Frame}
-use Rattle.nodes.specs.Nodes.{above}
-use Rattle.walk.specs.Walk.{frames}
+use Rattle.walk.specs.Walk.{frames, no_frame}
 use Rattle.shape.specs.Walk.{whole_walk}
 use Rattle.shape.proofs.Loops.{begin, forward, turn, done, ill}
 use Rattle.node_boxes.proofs.Loops.{filling_start, filling_node, filling_end, filling_done, filling_ill}
 use Rattle.node_boxes.proofs.fill.Goals as goal
 
 pub loop-v-init : goal.loop-v-init
-loop-v-init c = begin _ _ _ (length-replicate {A = Frame} frames above) c.start-w.ensures (filling_start _ _ _)
+loop-v-init c = begin _ _ _ (length-replicate {A = Frame} frames no_frame) c.start-w.ensures (filling_start _ _ _)
 
 pub enter-own-requires : goal.enter-own-requires
 enter-own-requires c = rw c.number_room-count.ensures at (forward c.loop-v.invariant c.step-s.ensures c.in-Node.is tt).numbers

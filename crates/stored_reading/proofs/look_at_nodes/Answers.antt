@@ -4,14 +4,13 @@ use Prim.Native.Nat.{ℕ}
 use native.Mathlib.Omega.{arith}
 use lib.ListN.{length-replicate}
 use Rattle.nodes.specs.declared.Frame.{Frame}
-use Rattle.nodes.specs.Nodes.{above}
-use Rattle.walk.specs.Walk.{frames}
+use Rattle.walk.specs.Walk.{frames, no_frame}
 use Rattle.stored_reading.proofs.Looks.{nodes_begin, node_room_law, node_faulty, node_passed, node_to, node_ill, nodes_end}
 use Rattle.stored_reading.proofs.look_at_nodes.Goals as goal
 use Rattle.stored_reading.proofs.look_at_nodes.Goals.{then-well+in-Some, then-well+in-None, else-well}
 
 pub loop-init : goal.loop-init
-loop-init c = rw c.first_node-at.ensures (nodes_begin _ _ _ _ _ _ (length-replicate {A = Frame} frames above) c.start-w.ensures)
+loop-init c = rw c.first_node-at.ensures (nodes_begin _ _ _ _ _ _ (length-replicate {A = Frame} frames no_frame) c.start-w.ensures)
 
 pub returns-then-not-is_sized : goal.returns-then-not-is_sized
 returns-then-not-is_sized c = node_faulty c.loop.invariant c.loop-test.true (sym c.is_sized.ensures ∙ c.if-not-is_sized.true)

@@ -2,8 +2,7 @@
 use mathlib.Core.Path.{refl, ap, sym, ◌∙◌}
 use lib.ListN.{length-replicate}
 use Rattle.nodes.specs.declared.Frame.{Frame}
-use Rattle.nodes.specs.Nodes.{above}
-use Rattle.walk.specs.Walk.{frames}
+use Rattle.walk.specs.Walk.{frames, no_frame}
 use Rattle.shape.specs.Walk.{whole_walk}
 use Rattle.shape.proofs.Loops.{begin, forward, turn, done, ill}
 use Rattle.strict.specs.Strict.{found, told, of_walk}
@@ -12,7 +11,7 @@ use Rattle.strict.proofs.first_fault.Goals as goal
 
 pub loop-v-init : goal.loop-v-init
 unfolding found
-loop-v-init c = begin _ _ _ (length-replicate {A = Frame} frames above) c.start-w.ensures refl
+loop-v-init c = begin _ _ _ (length-replicate {A = Frame} frames no_frame) c.start-w.ensures refl
 
 pub or_fault-found-requires : goal.or_fault-found-requires
 or_fault-found-requires c = rw c.number_room-count.ensures at (forward c.loop-v.invariant c.step-s.ensures c.in-Node.is tt).numbers

@@ -2,8 +2,7 @@
 use mathlib.Core.Path.{refl, ap, sym, ◌∙◌}
 use lib.ListN.{length-replicate}
 use Rattle.nodes.specs.declared.Frame.{Frame}
-use Rattle.nodes.specs.Nodes.{above}
-use Rattle.walk.specs.Walk.{frames}
+use Rattle.walk.specs.Walk.{frames, no_frame}
 use Rattle.shape.specs.Walk.{whole_walk}
 use Rattle.shape.proofs.Loops.{begin, forward, turn, done, ill}
 use Rattle.pen.proofs.Puts.{emits}
@@ -12,7 +11,7 @@ use Rattle.to_wkt.proofs.PutByWalk.{owed_none, owed_on, put_done, put_ill}
 use Rattle.to_wkt.proofs.put_rows.Goals as goal
 
 pub loop-v-init : goal.loop-v-init
-loop-v-init c = (refl, begin _ _ _ (length-replicate {A = Frame} frames above) c.start-w.ensures (owed_none _ _ _))
+loop-v-init c = (refl, begin _ _ _ (length-replicate {A = Frame} frames no_frame) c.start-w.ensures (owed_none _ _ _))
 
 pub put_node-pen-requires : goal.put_node-pen-requires
 put_node-pen-requires c = rw c.number_room-count.ensures at (forward c.loop-v.invariant.1 c.step-s.ensures c.in-Node.is tt).numbers
