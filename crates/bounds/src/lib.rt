@@ -165,6 +165,6 @@ pub fn close(table: &mut [i64], row: usize)
 pub fn refuse(table: &mut [i64], number: u32, place: usize) -> BoxAnswer
     ensures { Refuses number place table.old result table.new }
 {
-    store::clear(table, 0);
+    store::clear_any(table, 0);
     BoxAnswer { number, place }
 }

@@ -275,6 +275,6 @@ pub fn boxes(text: &[u8], nodes: &[u32], numbers: &[u32], table: &mut [i64]) -> 
     if found.number != 0 {
         return bounds::refuse(table, found.number, found.place);
     }
-    store::clear(table, rows * BOX_WIDTH);
+    store::clear_any(table, rows * BOX_WIDTH);
     found
 }

@@ -103,7 +103,7 @@ pub fn put_byte(out: &mut [u8], p: Pen, b: u8) -> Pen
 pub fn refuse(out: &mut [u8], number: u32) -> WriteAnswer
     ensures { Writes (refusal number) (length out.old) result out.new }
 {
-    store::clear(out, 0);
+    store::clear_any(out, 0);
     WriteAnswer {
         number,
         place: 0,

@@ -23,6 +23,9 @@ module _ (slice : List ℕ) where
   number_places_one rows = one
 
 -- of numbers of any type, whose zero is z
+pub clear_any_one : {A : Type 0} (z : A) (slice : List A) (from : ℕ) → One (λ left. left ≡ cleared_to z slice from)
+clear_any_one z slice from = one
+
 pub clear_one : {A : Type 0} (z : A) (slice : List A) (from : ℕ) → One (λ left. left ≡ cleared_to z slice from)
 clear_one z slice from = one
 

@@ -2,7 +2,7 @@
 #![tactic(auto)]
 
 ghost use Rattle.std.specs.Prelude.{◌≡◌, ◌≤◌, ◌<◌, ◌+◌, ◌*◌, ◌/◌, IfSome, IfNone, length, pos};
-ghost use Rattle.store.specs.Rows.{node_width, number_width, node_room, number_room, places_of, open_row, close_row, put_row, put_span, cleared_to, kind_at, dimension_at, parts_at, node_column, span_start_at, span_length_at, cell};
+ghost use Rattle.store.specs.Rows.{node_width, number_width, node_room, number_room, places_of, open_row, close_row, put_row, put_span, cleared_to, cleared, kind_at, dimension_at, parts_at, node_column, span_start_at, span_length_at, cell};
 ghost use Rattle.store.specs.Answers.{Accepts, refused, Leaves};
 
 pub const NODE_WIDTH: usize = 3;
@@ -163,17 +163,6 @@ impl Zero for u32 {
     ghost same = { λ x e. e };
 }
 
-// The kind that an array of bare noughts has where nothing else tells it: `let mut places = [0; 9]` may be cleared.
-impl Zero for i32 {
-    ghost ZERO = { pos 0 };
-
-    const ZERO: i32 = 0;
-
-    ghost copied = { tt };
-
-    ghost same = { λ x e. e };
-}
-
 impl Zero for i64 {
     ghost ZERO = { pos 0 };
 
@@ -184,13 +173,20 @@ impl Zero for i64 {
     ghost same = { λ x e. e };
 }
 
-// Zeroes the slice from `from` on.
-pub fn clear<T: Zero>(slice: &mut [T], from: usize)
+// Zeroes a slice of any numbers from `from` on.
+pub fn clear_any<T: Zero>(slice: &mut [T], from: usize)
     ensures { slice.new ≡ cleared_to T.ZERO slice.old from }
 {
     if from < slice.len() {
         slice[from..].fill(T::ZERO);
     }
+}
+
+// Zeroes the slice from `from` on. It takes rows of a store alone, so that an array of bare numbers that is lent to it is one of u32.
+pub fn clear(slice: &mut [u32], from: usize)
+    ensures { slice.new ≡ cleared slice.old from }
+{
+    clear_any(slice, from);
 }
 
 // The number in a column of a row of `WIDTH` numbers, or 0 where there is no such row.

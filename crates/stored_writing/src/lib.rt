@@ -129,7 +129,7 @@ fn finish(out: &mut [u8], p: Pen) -> WriteAnswer
     ensures answer { result ≡ wrote p.at }
     ensures bytes { out.new ≡ cleared out.old p.at }
 {
-    store::clear(out, p.at);
+    store::clear_any(out, p.at);
     WriteAnswer {
         number: 0,
         place: 0,
@@ -220,7 +220,7 @@ pub fn move_between(
 {
     let read = stored_reading::read(bytes, from, nodes, numbers);
     if read.number != 0 {
-        store::clear(out, 0);
+        store::clear_any(out, 0);
         return refused_move(read.number, read.place);
     }
     let node_places = store::node_places(nodes, read.nodes);

@@ -135,7 +135,7 @@ pub fn write(text: &[u8], nodes: &[u32], numbers: &[u32], out: &mut [u8]) -> Wri
         return pen::refuse(out, NO_ROOM);
     }
     let length = p.at;
-    store::clear(out, length);
+    store::clear_any(out, length);
     WriteAnswer {
         number: 0,
         place: 0,

@@ -4,4 +4,4 @@ use Rattle.bounds.proofs.Tables.{cleared_zeros}
 use Rattle.bounds.proofs.refuse.Goals as goal
 
 pub returns : goal.returns
-returns c = record { answer = refl; table = c.clear.ensures ∙ cleared_zeros _ }
+returns c = record { answer = refl; table = c.clear_any.ensures ∙ cleared_zeros _ }

@@ -13,4 +13,4 @@ pub returns-then-found-ne0 : goal.returns-then-found-ne0
 returns-then-found-ne0 c = filled_refused _ _ _ _ _ _ _ _ (sym c.are_whole.ensures ∙ c.if-not-are_whole.false) (omega (arith, c.if-table-rows.false, c.node_room-rows.ensures)) c.fill-found.ensures c.if-found-ne0.true c.fill-found.auto.table c.refuse-then-found-ne0.ensures
 
 pub returns : goal.returns
-returns c = filled_boxed _ _ _ _ _ _ _ (sym c.are_whole.ensures ∙ c.if-not-are_whole.false) (omega (arith, c.if-table-rows.false, c.node_room-rows.ensures)) c.fill-found.ensures c.if-found-ne0.false (c.clear.ensures ∙ ap (cleared _) (ap (λ (n : ℕ). n * 5) c.node_room-rows.ensures))
+returns c = filled_boxed _ _ _ _ _ _ _ (sym c.are_whole.ensures ∙ c.if-not-are_whole.false) (omega (arith, c.if-table-rows.false, c.node_room-rows.ensures)) c.fill-found.ensures c.if-found-ne0.false (c.clear_any.ensures ∙ ap (cleared _) (ap (λ (n : ℕ). n * 5) c.node_room-rows.ensures))

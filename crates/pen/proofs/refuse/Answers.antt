@@ -4,4 +4,4 @@ use Rattle.store.proofs.Zeros.{cleared_zeros}
 use Rattle.pen.proofs.refuse.Goals as goal
 
 pub returns : goal.returns
-returns c = record { answer = refl; bytes = c.clear.ensures ∙ cleared_zeros _ }
+returns c = record { answer = refl; bytes = c.clear_any.ensures ∙ cleared_zeros _ }

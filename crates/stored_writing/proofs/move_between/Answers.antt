@@ -10,7 +10,7 @@ use Rattle.stored_writing.proofs.move_between.Goals as goal
 pub returns-then-read-ne0 : goal.returns-then-read-ne0
 returns-then-read-ne0 c =
     let s = c.args in
-    unread (version_of s.from) (version_of s.to) s.bytes.now s.nodes.now s.numbers.now _ _ _ c.read-read.ensures (λ z. c.if-read-ne0.true z) c.refused_move.ensures (c.clear.ensures ∙ cleared_all _)
+    unread (version_of s.from) (version_of s.to) s.bytes.now s.nodes.now s.numbers.now _ _ _ c.read-read.ensures (λ z. c.if-read-ne0.true z) c.refused_move.ensures (c.clear_any.ensures ∙ cleared_all _)
 
 pub rewrite-wrote-requires : goal.rewrite-wrote-requires
 rewrite-wrote-requires c =
@@ -21,7 +21,7 @@ pub returns-then-wrote-ne0 : goal.returns-then-wrote-ne0
 returns-then-wrote-ne0 c =
     let s = c.args in
     let m = unwritten (version_of s.from) (version_of s.to) s.bytes.now s.nodes.now s.numbers.now _ _ _ c.read-read.ensures c.if-read-ne0.false c.node_places-node_places.ensures.value c.number_places-number_places.ensures.value c.rewrite-wrote.ensures (λ z. c.if-wrote-ne0.true z) c.refused_move-then-wrote-ne0.ensures in
-    rw (c.clear-then-wrote-ne0.ensures, c.clear-then-wrote-ne0-2.ensures) m
+    rw (c.clear.ensures, c.clear-then-wrote-ne0.ensures) m
 
 pub returns : goal.returns
 returns c =

@@ -14,4 +14,4 @@ pub returns-then-p : goal.returns-then-p
 returns-then-p c = said_full (stands _ _ _ (sym c.are_rows.ensures ∙ c.if-not-are_rows.false) _ _ c.put_rows.ensures _ c.in-Some.is) c.put_rows.auto.out c.if-p.true c.refuse-then-p.ensures
 
 pub returns : goal.returns
-returns c = said_all (stands _ _ _ (sym c.are_rows.ensures ∙ c.if-not-are_rows.false) _ _ c.put_rows.ensures _ c.in-Some.is) c.put_rows.auto.out c.if-p.false c.clear.ensures
+returns c = said_all (stands _ _ _ (sym c.are_rows.ensures ∙ c.if-not-are_rows.false) _ _ c.put_rows.ensures _ c.in-Some.is) c.put_rows.auto.out c.if-p.false c.clear_any.ensures

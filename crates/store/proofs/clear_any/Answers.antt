@@ -1,7 +1,7 @@
--- `store::clear` meets its contract: the places from `from` on are filled, or there is none.
+-- `store::clear_any` meets its contract: the places from `from` on are filled, or there is none.
 use mathlib.Core.Path.{sym}
 use Rattle.store.proofs.Zeros.{cleared_filled, cleared_past}
-use Rattle.store.proofs.clear.Goals as goal
+use Rattle.store.proofs.clear_any.Goals as goal
 
 pub returns-then-from-slice : goal.returns-then-from-slice
 returns-then-from-slice g c =
