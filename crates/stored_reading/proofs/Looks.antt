@@ -13,7 +13,8 @@ use Rattle.lists.specs.Options.{is_some}
 use Rattle.walk.specs.declared.Walk.{Walk}
 use Rattle.std.specs.Prelude.{Option, Some, None}
 use Rattle.nodes.specs.declared.Frame.{Frame}
-use Rattle.walk.specs.Walk.{frames, beginning, entering, has_ended, ahead_by}
+use Rattle.walk.specs.Walk.{frames, beginning, entering, advancing, has_ended, ahead_by}
+use Rattle.walk.proofs.Steps.{taken_on, not_taken_on}
 use Rattle.walk.proofs.Fed.{Reached, Begun, given_begin, Gone, given_to, given_ill, given_last}
 use Rattle.fields.specs.Counts.{byte, count_in}
 use Rattle.fields.specs.Fields.{head_length, is_sized}
@@ -117,6 +118,12 @@ module _ {width : ℕ} {bytes : List ℕ} {start count numbers : ℕ} {s : List 
                 same = nodes_ill numbers s w given s' w' g rest ∙ rw (its_row, ← z) its_field;
                 reached = λ y. absurd (false≢true y);
               }
+
+        -- the row is given: it is met, or none is given any more
+        pub node_met : {met : Bool} {w' : Walk} {s' : List Frame} → (met, w', s') ≡ advancing s numbers w given → LookingNodes width bytes start count numbers s' w' met (at + head_length + 2 + width) (i + 1)
+        unfolding advancing
+        node_met {met = true} e = node_to (taken_on _ _ e) refl
+        node_met {met = false} {w' = w'} e = node_ill (not_taken_on _ _ e) refl w'
 
   pub nodes_end : count ≤ i → seen (well && has_ended s numbers w) at ≡ nodes_seen width bytes start count numbers
   nodes_end h = rw (go well (λ z. (l.reached z).0)) (rw (turn_none (is_sized node_tag (node_size width) bytes) (row_told width bytes) (node_after width) count i at h) at l.same)

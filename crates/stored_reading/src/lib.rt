@@ -95,18 +95,14 @@ fn look_at_nodes(bytes: &[u8], width: usize, c: Counts) -> Result<Seen, Refusal>
         let parts = content + BEFORE_PARTS;
         let end = parts + width;
         if well {
-            let entered = walk::enter(
+            well = walk::advance(
                 &mut frames,
                 c.numbers,
-                w,
+                &mut w,
                 bytes[content] as u32,
                 bytes[content + 1] as u32,
                 fields::count_in(&bytes[parts..end]),
             );
-            match entered {
-                Some(after) => w = after,
-                None => well = false,
-            }
         }
         at = end;
     }

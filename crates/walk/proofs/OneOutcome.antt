@@ -8,9 +8,9 @@ use Rattle.lists.proofs.One.{one}
 use Rattle.store.specs.Rows.{Row}
 use Rattle.nodes.specs.declared.Frame.{Frame}
 use Rattle.walk.specs.declared.Walk.{Walk}
-use Rattle.walk.specs.Walk.{beginning, coming_next, entering, has_ended, walk_step}
+use Rattle.walk.specs.Walk.{beginning, coming_next, entering, advancing, has_ended, walk_step}
 
--- the answer and the frames together
+-- the answer and the frames together, and the walk where it is lent
 module _ (frames : List Frame) where
   pub start_one : One (λ r. r ≡ beginning frames)
   start_one = one
@@ -20,6 +20,9 @@ module _ (frames : List Frame) where
 
   pub enter_one : (count : ℕ) (w : Walk) (met : Row) → One (λ r. r ≡ entering frames count w met)
   enter_one count w met = one
+
+  pub advance_one : (count : ℕ) (w : Walk) (met : Row) → One (λ r. r ≡ advancing frames count w met)
+  advance_one count w met = one
 
   pub has_ended_one : (count : ℕ) (w : Walk) → One (λ r. r ≡ has_ended frames count w)
   has_ended_one count w = one

@@ -1,7 +1,7 @@
 -- The walk's definition, a test of the code at a time.
 -- Assumes nothing.
 use mathlib.Core.Path.{◌≡◌, refl, sym, ap, ◌∙◌}
-use mathlib.Core.Bool.{Bool, true, false, cond}
+use mathlib.Core.Bool.{Bool, true, false, false≢true, cond}
 use mathlib.Core.List.{List}
 use Prim.Native.Nat.{ℕ, ◌+◌, ◌-◌, ◌^◌, ◌≤◌, ◌<◌}
 use native.Mathlib.Omega.{arith}
@@ -16,7 +16,7 @@ use Rattle.nodes.specs.Nodes.{no_kind, visit_of}
 use Rattle.walk.specs.declared.Walk.{Walk}
 use Rattle.walk.specs.declared.Coming.TheVariants.{Child, End, Last}
 use Rattle.std.specs.Prelude.{Option, Some, None}
-use Rattle.walk.specs.Walk.{frames, HasChild, frame_at, walk_at, walked, ill, coming_in, coming_next, meeting, wanted_from, entering, met_by, walk_step}
+use Rattle.walk.specs.Walk.{frames, HasChild, frame_at, walk_at, walked, ill, coming_in, coming_next, meeting, wanted_from, Taken, entering, advanced_by, advancing, met_by, walk_step}
 use Rattle.walk.proofs.Wants.{wants_here, wants_below}
 
 -- ---- a row that is given
@@ -30,6 +30,26 @@ module _ (s : List Frame) (long : length s ≡ frames) (w : Walk) (r : Row) (t :
   pub enters : (count : ℕ) → meeting s count (walk_at w.row w.number t) (visit_of w.row w.number f r) ≡ entering s count w r
   unfolding entering
   enters count = rw (e, lt-ltb (w.row + 1) (2 ^ 64) counted, i)
+
+-- whether a walk was taken on in place says what entering answers
+module _ (w : Walk) {w' : Walk} {s' : List Frame} where
+  pub taken_on : (t : Taken) → (true, w', s') ≡ advanced_by w t → (Some w', s') ≡ t
+  taken_on (Some v, s) e = ap (λ p. (Some p.1, p.2)) e
+  taken_on (None, s) e = absurd (false≢true (sym (ap (λ p. p.0) e)))
+
+  pub not_taken_on : (t : Taken) → (false, w', s') ≡ advanced_by w t → (None, s') ≡ t
+  not_taken_on (Some v, s) e = absurd (false≢true (ap (λ p. p.0) e))
+  not_taken_on (None, s) e = ap (λ p. (None, p.2)) e
+
+-- what entering answers, in place
+module _ (s : List Frame) (count : ℕ) (w : Walk) (r : Row) {s' : List Frame} where
+  pub met_in_place : {w' : Walk} → (Some w', s') ≡ entering s count w r → (true, w', s') ≡ advancing s count w r
+  unfolding advancing
+  met_in_place e = ap (advanced_by w) e
+
+  pub ill_in_place : (None, s') ≡ entering s count w r → (false, w, s') ≡ advancing s count w r
+  unfolding advancing
+  ill_in_place e = ap (advanced_by w) e
 
 module _ (s : List Frame) (count : ℕ) (w : Walk) (r : Row) where
   pub none_wanted : wanted_from s w.top ≡ None → (None, s) ≡ entering s count w r

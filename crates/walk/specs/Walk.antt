@@ -1,6 +1,6 @@
 -- The walk as the code takes it, step by step, with its frames in a lent array: `proofs/Fed`, for rows that are given, and `proofs/Stepped` of `shape`,
 -- for those of a slice, show that it meets what `Nodes` says.
-use Rattle.std.specs.Prelude.{Bool, cond, not, ◌&&◌, Option, Some, None, is_none, List, ℕ, zero, suc, ◌+◌, ◌-◌, ◌*◌, ◌^◌, ◌≤◌, ◌<◌, eqb, leb, ltb, drop, slice_index_or, slice_set}
+use Rattle.std.specs.Prelude.{Bool, cond, not, ◌&&◌, true, false, Option, Some, None, is_none, List, ℕ, zero, suc, ◌+◌, ◌-◌, ◌*◌, ◌^◌, ◌≤◌, ◌<◌, eqb, leb, ltb, drop, slice_index_or, slice_set}
 use Rattle.std.proofs.Math.Option as maybe
 use Rattle.kinds.specs.Kinds.{kind_line_string, width}
 use Rattle.store.specs.Rows.{Row, node_room, row_at}
@@ -102,6 +102,14 @@ entering_at s count w r (Some t) =
 
 unfoldable pub entering : List Frame → ℕ → Walk → Row → Taken
 entering s count w r = entering_at s count w r (wanted_from s w.top)
+
+-- the same in place: whether the row is met, and the walk after it, which stays where the row is ill
+abbrev pub advanced_by : Walk → Taken → Bool × Walk × List Frame
+advanced_by w (Some w', s) = (true, w', s)
+advanced_by w (None, s) = (false, w, s)
+
+unfoldable pub advancing : List Frame → ℕ → Walk → Row → Bool × Walk × List Frame
+advancing s count w r = advanced_by w (entering s count w r)
 
 -- none is wanted after the last, and no number is left
 unfoldable pub has_ended : List Frame → ℕ → Walk → Bool

@@ -5,7 +5,7 @@ ghost use Rattle.std.specs.Prelude.{◌≡◌, true};
 ghost use Rattle.store.specs.Rows.{row, row_at};
 ghost use Rattle.nodes.specs.Nodes.{visit_of, may_open, frame_of};
 ghost use Rattle.walk.specs.declared.Coming.TheVariants.{Child};
-ghost use Rattle.walk.specs.Walk.{HasChild, beginning, coming_next, passing_leaf, pushing, meeting, wanted_from, entering, has_ended, last_met, walk_step};
+ghost use Rattle.walk.specs.Walk.{HasChild, beginning, coming_next, passing_leaf, pushing, meeting, wanted_from, entering, advancing, has_ended, last_met, walk_step};
 
 use kinds::KIND_GEOMETRYCOLLECTION;
 use nodes::{Frame, Met, NO_KIND, Visit};
@@ -176,7 +176,42 @@ fn wanting(frames: &[Frame; FRAMES], top: usize) -> Option<usize>
 }
 
 // Meets a row that is given by what it says, of rows that have `count` numbers: nodes that have ended before it are passed. Whoever has the rows
-// elsewhere than in a slice gives them one by one, and asks `has_ended` after the last. It answers the walk after the row, or none where the row is ill.
+// elsewhere than in a slice gives them one by one, and asks `has_ended` after the last. It answers whether the row is met, and leaves the walk after it;
+// where the row is ill, the walk stays. A walk that is lent stays where it lies, so that a row after a row copies none.
+pub fn advance(
+    frames: &mut [Frame; FRAMES],
+    count: usize,
+    w: &mut Walk,
+    kind: u32,
+    dimension: u32,
+    parts: u32,
+) -> bool
+    ensures { (result, w.new, frames.new) ≡ advancing frames.old count w.old (row kind dimension parts) }
+{
+    let Some(top) = wanting(frames, w.top) else {
+        return false;
+    };
+    if w.row == usize::MAX {
+        return false;
+    }
+    let v = Visit {
+        row: w.row,
+        number: w.number,
+        kind,
+        dimension,
+        parts,
+        parent: frames[top],
+    };
+    match meet(frames, count, Walk { top, ..*w }, v) {
+        Some(after) => {
+            *w = after;
+            true
+        }
+        None => false,
+    }
+}
+
+// The same of a walk that is given: it answers the walk after the row, or none where the row is ill.
 pub fn enter(
     frames: &mut [Frame; FRAMES],
     count: usize,
@@ -187,19 +222,11 @@ pub fn enter(
 ) -> Option<Walk>
     ensures { (result, frames.new) ≡ entering frames.old count w (row kind dimension parts) }
 {
-    let top = wanting(frames, w.top)?;
-    if w.row == usize::MAX {
-        return None;
+    let mut after = w;
+    if advance(frames, count, &mut after, kind, dimension, parts) {
+        return Some(after);
     }
-    let v = Visit {
-        row: w.row,
-        number: w.number,
-        kind,
-        dimension,
-        parts,
-        parent: frames[top],
-    };
-    meet(frames, count, Walk { top, ..w }, v)
+    None
 }
 
 // Whether all that was opened has ended and no number is left.

@@ -5,9 +5,9 @@ use native.Mathlib.Omega.{arith}
 use lib.ListN.{length-replicate}
 use Rattle.nodes.specs.declared.Frame.{Frame}
 use Rattle.walk.specs.Walk.{frames, no_frame}
-use Rattle.stored_reading.proofs.Looks.{nodes_begin, node_room_law, node_faulty, node_passed, node_to, node_ill, nodes_end}
+use Rattle.stored_reading.proofs.Looks.{nodes_begin, node_room_law, node_faulty, node_passed, node_met, nodes_end}
 use Rattle.stored_reading.proofs.look_at_nodes.Goals as goal
-use Rattle.stored_reading.proofs.look_at_nodes.Goals.{then-well+in-Some, then-well+in-None, else-well}
+use Rattle.stored_reading.proofs.look_at_nodes.Goals.{then-well, else-well}
 
 pub loop-init : goal.loop-init
 loop-init c = rw c.first_node-at.ensures (nodes_begin _ _ _ _ _ _ (length-replicate {A = Frame} frames no_frame) c.start-w.ensures)
@@ -45,8 +45,7 @@ loop-preserved c =
     let few = c.requires.1 in
     let all : (i : ℕ) → _ = λ i. (c.type_inv.bytes i).fits in
     elim c.if-well.branch [
-      | then-well+in-Some w ↦ rw (w.frames-is, w.w-is, w.well-is ∙ w.if-well.true) (node_to inv test e w.if-well.true narrow few all w.count_in.ensures w.enter-entered.ensures w.in-Some.is)
-      | then-well+in-None w ↦ rw (w.frames-is, w.w-is, w.well-is) (node_ill inv test e w.if-well.true narrow few all w.count_in.ensures w.enter-entered.ensures w.in-None.is _)
+      | then-well w ↦ rw (w.frames-is, w.w-is, w.well-is) (node_met inv test e w.if-well.true narrow few all w.count_in.ensures w.advance-well.ensures)
       | else-well w ↦ rw (w.frames-is, w.w-is, w.well-is) (node_passed inv test e w.if-well.false)
     ]
 
