@@ -1,7 +1,7 @@
 -- What the loops over digits have read at each turn.
 -- Assumes nothing.
 use mathlib.Core.Path.{◌≡◌, refl, sym, ap, ◌∙◌}
-use mathlib.Core.Bool.{Bool, true, false, cond, not, ◌||◌, ◌&&◌, and-true, false≢true}
+use mathlib.Core.Bool.{Bool, true, false, cond, not, ◌||◌, ◌&&◌, false≢true}
 use mathlib.Core.List.{List, [], ◌∷◌, ◌++◌}
 use Prim.Native.Nat.{ℕ, zero, suc, ◌+◌, ◌-◌, ◌*◌, ◌^◌, ◌≤◌, ◌<◌, min}
 use native.Mathlib.Nat.{pow-succ', pow-le-pow_right, zero-lt-suc}
@@ -21,6 +21,7 @@ use Rattle.scan.proofs.Bytes.{digit_high}
 use Rattle.scan.proofs.Front.{rest_in, rest_past}
 use Rattle.scan.proofs.Runs.{on, stop, past}
 use Rattle.number.proofs.Plain.{every_append}
+use Rattle.number.proofs.Fours.{every_on}
 use Rattle.decimal.specs.declared.Kept.{Kept}
 use Rattle.std.specs.Prelude.{Some, None, ◌↔◌}
 use Rattle.decimal.specs.Decimal.{leading, read_on, value_of}
@@ -105,20 +106,6 @@ told_every p l false h = go (every p l) refl
     go : (t : Bool) → every p l ≡ t → false ≡ t
     go true e = absurd (false≢true (h.1 (index_every p l e)))
     go false e = refl
-
--- the first bytes, and one more
-pub every_first : (s : List ℕ) → true ≡ every is_digit (take 0 s)
-unfolding every
-every_first s = refl
-
-every_snoc : (x : List ℕ) (b : ℕ) → every is_digit (x ++ (b ∷ [])) ≡ (every is_digit x && is_digit b)
-unfolding every
-every_snoc x b = every_append is_digit x (b ∷ []) ∙ ap (λ (t : Bool). every is_digit x && t) (and-true (is_digit b))
-
-pub every_on : (s : List ℕ) (i : ℕ) {all next : Bool} → i < length s → all ≡ every is_digit (take i s) → next ≡ is_digit (get_or s i 0) → (all && next) ≡ every is_digit (take (i + 1) s)
-every_on s i l e n =
-    let t : take (i + 1) s ≡ take i s ++ (get_or s i 0 ∷ []) = rw add-one (take-suc s i 0 l) in
-    rw (e, n, t) (sym (every_snoc (take i s) (get_or s i 0)))
 
 -- four at a time, and then one at a time: those from i on are digits if all are
 pub record DigitsFrom (w : List ℕ) (from i : ℕ) : Type 0 where

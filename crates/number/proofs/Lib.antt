@@ -3,4 +3,5 @@ pub mod Equal
 pub mod Inner
 pub mod Text
 pub mod Plain
+pub mod Fours
 pub mod OneOutcome

@@ -13,11 +13,11 @@ use Rattle.decimal.proofs.all_digits.Goals as goal
 pub loop-i-init : goal.loop-i-init
 loop-i-init c = digits_none _ _ c.requires
 
-pub returns-then-not-four_digits : goal.returns-then-not-four_digits
-returns-then-not-four_digits c = four_stop c.loop-i.invariant c.loop-i-test.true (sym c.four_digits.ensures ∙ c.if-not-four_digits.true)
+pub returns-then-not-are_digits : goal.returns-then-not-are_digits
+returns-then-not-are_digits c = four_stop c.loop-i.invariant c.loop-i-test.true (sym c.are_digits.ensures ∙ c.if-not-are_digits.true)
 
 pub loop-i-preserved : goal.loop-i-preserved
-loop-i-preserved c = four_on c.loop-i.invariant c.loop-i-test.true (sym c.four_digits.ensures ∙ c.if-not-four_digits.false)
+loop-i-preserved c = four_on c.loop-i.invariant c.loop-i-test.true (sym c.are_digits.ensures ∙ c.if-not-are_digits.false)
 
 pub returns : goal.returns
 returns c =

@@ -19,7 +19,7 @@ overflow_add-first c =
 pub returns-then-first-w : goal.returns-then-first-w
 returns-then-first-w c =
     elim c.if-w-whole-eq46.branch [
-      | then-w-whole-eq46 w ↦ then_point _ _ _ c.after_sign-first.ensures c.digits_end-whole.ensures c.if-w-whole.false _ w.if-w-whole-eq46.true c.digits_end.ensures (ltb-true _ _ (sym w.value-is ∙ c.if-first-w.true))
+      | then-w-whole-eq46 w ↦ then_point _ _ _ c.after_sign-first.ensures c.digits_end-whole.ensures c.if-w-whole.false _ w.if-w-whole-eq46.true ((c.digits_end.ensures ∙ c.past_fours.ensures)) (ltb-true _ _ (sym w.value-is ∙ c.if-first-w.true))
       | else-w-whole-eq46 w ↦ absurd (w.if-w-whole-eq46.false (eqb-true _ _ (sym w.value-is ∙ c.if-first-w.true)))
     ]
 
