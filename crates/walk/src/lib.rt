@@ -111,6 +111,7 @@ pub fn next(frames: &[Frame; FRAMES], w: Walk) -> Coming
 }
 
 // A node without child rows is met: it takes its numbers.
+#[inline(always)]
 fn pass(frames: &mut [Frame; FRAMES], count: usize, w: Walk, v: Visit) -> Option<Walk>
     requires { HasChild w v }
     ensures { (result, frames.new) ≡ passing_leaf frames.old count w v }
@@ -128,6 +129,7 @@ fn pass(frames: &mut [Frame; FRAMES], count: usize, w: Walk, v: Visit) -> Option
 }
 
 // A node whose children follow is met: it gets a frame, if there is one.
+#[inline(always)]
 fn push(frames: &mut [Frame; FRAMES], w: Walk, v: Visit) -> Option<Walk>
     requires { HasChild w v }
     ensures { (result, frames.new) ≡ pushing frames.old w v }
@@ -146,6 +148,7 @@ fn push(frames: &mut [Frame; FRAMES], w: Walk, v: Visit) -> Option<Walk>
 }
 
 // A node is met in its place, if it may stand there.
+#[inline(always)]
 fn meet(frames: &mut [Frame; FRAMES], count: usize, w: Walk, v: Visit) -> Option<Walk>
     requires { HasChild w v }
     ensures { (result, frames.new) ≡ meeting frames.old count w v }
@@ -175,24 +178,22 @@ fn wanting(frames: &[Frame; FRAMES], top: usize) -> Option<usize>
     None
 }
 
-// Meets a row that is given by what it says, of rows that have `count` numbers: nodes that have ended before it are passed. Whoever has the rows
-// elsewhere than in a slice gives them one by one, and asks `has_ended` after the last. It answers whether the row is met, and leaves the walk after it;
-// where the row is ill, the walk stays. A walk that is lent stays where it lies, so that a row after a row copies none.
-pub fn advance(
+// The walk after a row that is given, or none where the row is ill. This is a part of each function that is asked: an answer that goes through memory
+// goes there once more for each row.
+#[inline(always)]
+fn after_row(
     frames: &mut [Frame; FRAMES],
     count: usize,
-    w: &mut Walk,
+    w: Walk,
     kind: u32,
     dimension: u32,
     parts: u32,
-) -> bool
-    ensures { (result, w.new, frames.new) ≡ advancing frames.old count w.old (row kind dimension parts) }
+) -> Option<Walk>
+    ensures { (result, frames.new) ≡ entering frames.old count w (row kind dimension parts) }
 {
-    let Some(top) = wanting(frames, w.top) else {
-        return false;
-    };
+    let top = wanting(frames, w.top)?;
     if w.row == usize::MAX {
-        return false;
+        return None;
     }
     let v = Visit {
         row: w.row,
@@ -202,16 +203,12 @@ pub fn advance(
         parts,
         parent: frames[top],
     };
-    match meet(frames, count, Walk { top, ..*w }, v) {
-        Some(after) => {
-            *w = after;
-            true
-        }
-        None => false,
-    }
+    meet(frames, count, Walk { top, ..w }, v)
 }
 
-// The same of a walk that is given: it answers the walk after the row, or none where the row is ill.
+// Meets a row that is given by what it says, of rows that have `count` numbers: nodes that have ended before it are passed. Whoever has the rows
+// elsewhere than in a slice gives them one by one, and asks `has_ended` after the last. It answers the walk after the row, or none where the row is ill.
+#[inline(never)]
 pub fn enter(
     frames: &mut [Frame; FRAMES],
     count: usize,
@@ -222,11 +219,28 @@ pub fn enter(
 ) -> Option<Walk>
     ensures { (result, frames.new) ≡ entering frames.old count w (row kind dimension parts) }
 {
-    let mut after = w;
-    if advance(frames, count, &mut after, kind, dimension, parts) {
-        return Some(after);
+    after_row(frames, count, w, kind, dimension, parts)
+}
+
+// The same of a walk that is lent, and taken on in place: whether the row is met. Where it is ill, the walk stays.
+#[inline(never)]
+pub fn advance(
+    frames: &mut [Frame; FRAMES],
+    count: usize,
+    w: &mut Walk,
+    kind: u32,
+    dimension: u32,
+    parts: u32,
+) -> bool
+    ensures { (result, w.new, frames.new) ≡ advancing frames.old count w.old (row kind dimension parts) }
+{
+    match after_row(frames, count, *w, kind, dimension, parts) {
+        Some(after) => {
+            *w = after;
+            true
+        }
+        None => false,
     }
-    None
 }
 
 // Whether all that was opened has ended and no number is left.
