@@ -3,13 +3,13 @@ use Rattle.std.specs.Prelude as rust
 use Rattle.std.specs.Prelude.{Some, None, replicate, ◌≡◌, refl, Bool, true, false, List, [], ◌∷◌, ◌++◌, ℕ, ◌-◌, ◌^◌}
 use Rattle.std.proofs.Math.Option.{Option, none, some}
 use Rattle.kinds.specs.Kinds.{width}
-use Rattle.store.specs.Rows.{Row, node_over}
+use Rattle.store.specs.Rows.{Row, row, node_over}
 use Rattle.lists.specs.Options.{map_o}
 use Rattle.nodes.specs.declared.Frame.{Frame}
 use Rattle.nodes.specs.Nodes.{node_end, node_ends, still_open, at_last, is_allowed, child_kind, numbers_of, meets_node, meets_rows, meets}
 use Rattle.nodes.specs.Examples.{leaf, nest, point, empty_point, store}
 use Rattle.walk.specs.declared.Walk.{Walk}
-use Rattle.walk.specs.Walk.{frames, no_frame, put_next, walk_at, beginning, passing_leaf, pushing, meeting, wanted_in, wanted_from, entering, has_ended}
+use Rattle.walk.specs.Walk.{frames, no_frame, put_next, walk_at, beginning, passing_leaf, pushing, meeting, wanted_in, wanted_from, entering, advancing, has_ended}
 
 -- a walk and its frames, if no row before was ill
 abbrev Standing : Type 0
@@ -41,8 +41,19 @@ wants count rs = map_o (λ x. wanted_from x.1 x.0.top) (after count rs)
 ended : ℕ → List Row → Option Bool
 ended count rs = map_o (λ x. has_ended x.1 count x.0) (after count rs)
 
+-- whether one more row is met in place, and the walk then
+in_place : ℕ → List Row → Row → Option (Bool × Walk)
+in_place count rs r = map_o (λ x. ((advancing x.1 count x.0 r).0, (advancing x.1 count x.0 r).1)) (after count rs)
+
+-- the frames then
+frames_then : ℕ → List Row → Row → Option (List Frame)
+frames_then count rs r = map_o (λ x. (advancing x.1 count x.0 r).2) (after count rs)
+
+frames_of : ℕ → List Row → Option (List Frame)
+frames_of count rs = map_o (λ x. x.1) (after count rs)
+
 given : ℕ
-unfolding leaf nest point empty_point store width numbers_of child_kind is_allowed node_end node_ends still_open at_last meets_node meets_rows meets on_to give start after stands wants ended put_next beginning passing_leaf pushing meeting wanted_in entering has_ended
+unfolding leaf nest point empty_point store width numbers_of child_kind is_allowed node_end node_ends still_open at_last meets_node meets_rows meets on_to give start after stands wants ended in_place frames_then frames_of put_next beginning passing_leaf pushing meeting wanted_in entering advancing has_ended
 given = 0
 
 -- `GEOMETRYCOLLECTION(POINT(1 2))`: nothing, its first row, both; the collection has the frame below that above the root
@@ -79,3 +90,12 @@ number_count_law = (refl, refl, refl, refl, refl)
 row_count : (map_o (λ x. x.0) (give 0 (some (walk_at (2 ^ 64 - 2) 0 34, start.1)) empty_point) ≡ some (walk_at (2 ^ 64 - 1) 0 34)) × (give 0 (some (walk_at (2 ^ 64 - 1) 0 34, start.1)) empty_point ≡ none)
 unfolding given
 row_count = (refl, refl)
+
+-- in place: a row that is met; one that needs a number too many, one of an unknown kind, and one where none is wanted: each time the walk stays where it stood, and the frames as they were
+taken_on_in_place :
+    (in_place 2 (leaf 7 0 1) (row 1 0 1) ≡ some (true, walk_at 2 2 33)) × (frames_then 2 (leaf 7 0 1) (row 1 0 1) ≡ frames_of 2 (nest 1 point))
+    × (in_place 1 (leaf 7 0 1) (row 1 0 1) ≡ some (false, walk_at 1 0 33)) × (frames_then 1 (leaf 7 0 1) (row 1 0 1) ≡ frames_of 1 (leaf 7 0 1))
+    × (in_place 2 (leaf 7 0 1) (row 9 0 0) ≡ some (false, walk_at 1 0 33)) × (frames_then 2 (leaf 7 0 1) (row 9 0 0) ≡ frames_of 2 (leaf 7 0 1))
+    × (in_place 2 (nest 1 point) (row 1 0 0) ≡ some (false, walk_at 2 2 33)) × (frames_then 2 (nest 1 point) (row 1 0 0) ≡ frames_of 2 (nest 1 point))
+unfolding given
+taken_on_in_place = (refl, refl, refl, refl, refl, refl, refl, refl)

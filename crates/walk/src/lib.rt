@@ -178,8 +178,8 @@ fn wanting(frames: &[Frame; FRAMES], top: usize) -> Option<usize>
     None
 }
 
-// The walk after a row that is given, or none where the row is ill. This is a part of each function that is asked: an answer that goes through memory
-// goes there once more for each row.
+// The walk after a row that is given, or none where the row is ill. This, and `meet`, `pass` and `push` in it, is a part of both functions that are asked:
+// as a call it would answer through memory, once more for each row.
 #[inline(always)]
 fn after_row(
     frames: &mut [Frame; FRAMES],
